@@ -1,0 +1,9 @@
+pub mod Allowed
+pub mod Arrivals
+pub mod Faults
+pub mod Forms
+pub mod Headers
+pub mod Kinds
+pub mod Sessions
+pub mod Texts
+pub mod Writing

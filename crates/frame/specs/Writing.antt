@@ -1,0 +1,56 @@
+-- How a frame is written.
+use Prim.Native.Nat.{ℕ, _+_}
+use lib.Dec.{ltb}
+use lib.ListN.{length, drop}
+use mathlib.Core.Bool.{cond}
+use mathlib.Core.List.{List, [], _∷_, _++_}
+use mathlib.Core.Path.{_≡_}
+use Rattle.frame.specs.Headers.{readHeader, textOf}
+use Rattle.frame.specs.Kinds.{code, markByte}
+use Rattle.frame.specs.declared.faults.FrameFault.{FrameFault}
+use Rattle.frame.specs.declared.faults.FrameFault.the-variants.{Size, Malformed}
+use Rattle.frame.specs.declared.faults.LineFault.{LineFault}
+use Rattle.frame.specs.declared.faults.LineFault.the-variants.{InFrame, Short}
+use Rattle.frame.specs.declared.header.Header.{Header}
+use Rattle.frame.specs.declared.write.Heading.{Heading}
+use Rattle.notation.specs.Digits.{digits}
+use Rattle.std.specs.declared.option.Option.{Option}
+use Rattle.std.specs.declared.option.Option.the-variants.{Some, None}
+use Rattle.std.specs.declared.result.Result.{Result}
+use Rattle.std.specs.declared.result.Result.the-variants.{Ok, Err}
+
+-- the header in front of a text of n bytes: each field closed by a comma
+unfoldable pub headText : Heading → ℕ → List ℕ
+headText h n =
+    digits 4 (h .member) ++ (44 ∷ (digits 3 (code (h .kind)) ++ (44 ∷ (digits 6 (h .number) ++ (44 ∷ (markByte (h .mark) ∷ (44 ∷ (digits 4 n ++ (44 ∷ [])))))))))
+
+abbrev pub frameText : Heading → List ℕ → List ℕ
+frameText h text = headText h (length text) ++ text
+
+-- what cannot be written: a text above 1,000 bytes, a member or a number that its field cannot hold
+abbrev pub unwritable : Heading → ℕ → Option FrameFault
+unwritable h n =
+    cond (ltb 1000 n) (Some Size) (cond (ltb 9999 (h .member)) (Some (Malformed 0)) (cond (ltb 999999 (h .number)) (Some (Malformed 9)) None))
+
+-- what is passed on, and what a fault makes of it
+abbrev pub allowed : Option FrameFault → Result (Unit {0}) FrameFault
+allowed None = Ok tt
+allowed (Some e) = Err e
+
+-- the answer: the length of the frame, or the fault; an output that is too short comes last
+abbrev pub wrote : Option FrameFault → ℕ → ℕ → Result ℕ LineFault
+wrote (Some e) n room = Err (InFrame e)
+wrote None n room = cond (ltb room n) (Err Short) (Ok n)
+
+-- the output after a frame was written into it, or not
+abbrev pub outputAfter : Result ℕ LineFault → List ℕ → List ℕ → List ℕ
+outputAfter (Ok n) frame before = frame ++ drop n before
+outputAfter (Err e) frame before = before
+
+-- what a reader of the frame finds
+abbrev pub headerGiven : Heading → ℕ → Header
+headerGiven h n = record { member = h .member; code = code (h .kind); number = h .number; mark = h .mark; length = n }
+
+-- the bytes f read as the heading and the text that were given
+abbrev pub ReadsBack : Heading → List ℕ → List ℕ → Type 0
+ReadsBack h t f = (readHeader f ≡ Ok (headerGiven h (length t))) × (textOf (headerGiven h (length t)) f ≡ Ok (t, 23))
