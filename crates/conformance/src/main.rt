@@ -80,7 +80,10 @@ fn judge_frame(heap: Global, words: &mut Words<'_>) -> Result<Option<Reply>, All
     let Some(bytes) = decode_hex(heap, words.last())? else {
         return Ok(None);
     };
-    let circle = Circle { first: Osn(first), last: Osn(last) };
+    let circle = Circle {
+        first: Osn(first),
+        last: Osn(last),
+    };
     match judge(&bytes, member, circle) {
         Ok(arrival) => Ok(Some(Reply::Taken(arrival))),
         Err(fault) => Ok(Some(Reply::Refused(fault))),
@@ -146,7 +149,16 @@ fn ask(member: u16) -> Result<Asked, LineFault> {
 
 fn confirm(asked: Asked, member: u16) -> Result<Open, LineFault> {
     let mut out = [0u8; 23];
-    write_frame(&mut out, Heading { member, kind: Kind::LoggedOn, number: 0, mark: Mark::Fresh }, &[])?;
+    write_frame(
+        &mut out,
+        Heading {
+            member,
+            kind: Kind::LoggedOn,
+            number: 0,
+            mark: Mark::Fresh,
+        },
+        &[],
+    )?;
     match asked.accept(&out) {
         Ok(open) => Ok(open),
         Err((_, fault)) => Err(fault),
@@ -175,7 +187,13 @@ fn tell(rt: &LibcRuntime, reply: Reply) -> io::Result<()> {
         Reply::Done => println!(rt, "ok"),
         Reply::Refused(fault) => {
             let refusal = fault.refusal();
-            println!(rt, "x {} {} {}", refusal.number, layer_name(refusal.layer), refusal.offset)
+            println!(
+                rt,
+                "x {} {} {}",
+                refusal.number,
+                layer_name(refusal.layer),
+                refusal.offset
+            )
         }
         Reply::Taken(arrival) => tell_arrival(rt, arrival),
     }

@@ -32,7 +32,11 @@ impl<'a> Words<'a> {
     // The next word, if it is the last one.
     pub fn last(&mut self) -> Option<&'a [u8]> {
         let word = self.next()?;
-        if self.at > self.line.len() { Some(word) } else { None }
+        if self.at > self.line.len() {
+            Some(word)
+        } else {
+            None
+        }
     }
 
     // A number of at most nine digits, with no zero in front of others.

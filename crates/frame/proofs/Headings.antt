@@ -76,5 +76,5 @@ all-read f m t n l k u hm ht hn hk hl =
     let ek = none-wrong (wrongFrom 16 marked f) _ k hk .1 in
     let el = none-wrong (wrongFrom 18 (closed 4) f) _ l hl in
     let same : record { member = m; code = t; number = n; mark = k; length = l } ≡ headerOf f =
-        λ i. record { member = em i; code = et i; number = en i; mark = ek i; length = el .1 i } in
+    λ i. record { member = em i; code = et i; number = en i; mark = ek i; length = el .1 i } in
     ap Ok same ∙ sym (ap (λ o. unless o (headerOf f)) (u .search-there ∙ el .0)) ∙ sym (sized f (u .low) (u .high))

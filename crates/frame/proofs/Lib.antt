@@ -1,5 +1,9 @@
+pub mod Answered
+pub mod Checks
+pub mod Firsts
 pub mod Forms
 pub mod Headings
+pub mod Judges
 pub mod Numbers
 pub mod Ranges
 pub mod ReadBack

@@ -47,11 +47,11 @@ pub goes-on : (f : List ℕ) (at w i v : ℕ) → at + w ≤ length f → i < w 
 goes-on f at w i v inside h d (e, x, b) =
     let s : getD f (at + i) 0 - 48 < 10 = small (getD f (at + i) 0) d in
     let m : value (take (i + 1) (drop at f)) ≡ value (take i (drop at f)) * 10 + (getD (drop at f) i 0 - 48) =
-        value-more (drop at f) i (rw length-drop (omega arith)) in
+    value-more (drop at f) i (rw length-drop (omega arith)) in
     let g : getD (drop at f) i 0 ≡ getD f (at + i) 0 = getD-drop at f i 0 in
     let p : 10 ^ (i + 1) ≡ 10 ^ i * 10 = ap (λ (n : ℕ). 10 ^ n) (add-one i) ∙ pow-suc 10 i in
     let q : wrongFrom (at + i) (digit ∷ run (w - (i + 1))) f ≡ wrongFrom (at + i + 1) (run (w - (i + 1))) f =
-        wrong-past (at + i) digit (run (w - (i + 1))) f (omega arith) (sym d) in
+    wrong-past (at + i) digit (run (w - (i + 1))) f (omega arith) (sym d) in
     let a : at + i + 1 ≡ at + (i + 1) = omega arith in
     (e ∙ next-digit f at w i h ∙ q ∙ ap (λ (n : ℕ). wrongFrom n (run (w - (i + 1))) f) a, omega (arith, m, g, x), omega arith)
 

@@ -37,14 +37,14 @@ both-read s v w h g =
     let ev = none-wrong (wrongFrom 0 (closed 6) s) _ v h in
     let ew = none-wrong (wrongFrom 7 (run 6) s) _ w g in
     let same : record { from = record { 0 = v }; to = record { 0 = w } } ≡ ends s =
-        λ i. record { from = record { 0 = ev .1 i }; to = record { 0 = ew .1 i } } in
+    λ i. record { from = record { 0 = ev .1 i }; to = record { 0 = ew .1 i } } in
     ap Ok same ∙ sym (ap (λ o. unless o (ends s)) (pass 0 (closed 6) (run 6) s _ v h ∙ ew .0))
 
 pub range-back : (r : Range) → r .from .0 ≤ 999999 → r .to .0 ≤ 999999 → rangeOf (rangeText r) ≡ Ok r
 range-back r a b =
     let f : Fits range (rangeText r) =
-        fits-append (closed 6) (run 6) (digits 6 (r .from .0) ++ 44 ∷ []) (digits 6 (r .to .0))
-        (fits-closed 6 (digits 6 (r .from .0)) refl (all-digits 6 (r .from .0))) (fits-run 6 (digits 6 (r .to .0)) refl (all-digits 6 (r .to .0))) in
+    fits-append (closed 6) (run 6) (digits 6 (r .from .0) ++ 44 ∷ []) (digits 6 (r .to .0))
+    (fits-closed 6 (digits 6 (r .from .0)) refl (all-digits 6 (r .from .0))) (fits-run 6 (digits 6 (r .to .0)) refl (all-digits 6 (r .to .0))) in
     let none : firstWrong range (rangeText r ++ []) ≡ None = fits-none [] range (rangeText r) [] 0 refl f in
     let ef : value (digits 6 (r .from .0)) ≡ r .from .0 = value-digits 6 (r .from .0) (omega arith) in
     let et : value (digits 6 (r .to .0)) ≡ r .to .0 = value-digits 6 (r .to .0) (omega arith) in

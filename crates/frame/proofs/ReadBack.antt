@@ -59,7 +59,7 @@ fits-head h n =
     let member = digits 4 (h .member) ++ 44 ∷ [] in
     let f2 = fits-append (closed 6) p1 number s1 (fits-closed 6 (digits 6 (h .number)) refl (all-digits 6 (h .number))) f1 in
     let f3 = fits-append (closed 3) (closed 6 ++ p1) type (number ++ s1)
-        (fits-closed 3 (digits 3 (code (h .kind))) refl (all-digits 3 (code (h .kind)))) f2 in
+    (fits-closed 3 (digits 3 (code (h .kind))) refl (all-digits 3 (code (h .kind)))) f2 in
     fits-append (closed 4) (closed 3 ++ (closed 6 ++ p1)) member (type ++ (number ++ s1))
     (fits-closed 4 (digits 4 (h .member)) refl (all-digits 4 (h .member))) f3
 
@@ -121,5 +121,5 @@ pub front-back : (h : Heading) (t after before : List ℕ) → unwritable h (len
     ReadsBack h t (take (23 + length t) after)
 front-back h t after before e a =
     let front : take (23 + length t) after ≡ frameText h t =
-        ap (take (23 + length t)) a ∙ take-at (frameText h t) (drop (23 + length t) before) (23 + length t) (length-frame h t) in
+    ap (take (23 + length t)) a ∙ take-at (frameText h t) (drop (23 + length t) before) (23 + length t) (length-frame h t) in
     (ap readHeader front ∙ reads-back h t e, ap (textOf (headerGiven h (length t))) front ∙ text-back h t)

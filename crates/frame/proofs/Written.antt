@@ -22,12 +22,12 @@ pub laid : (p q h t out : List ℕ) → p ≡ h → q ≡ t → length h ≡ 23 
     putMid 23 (23 + length t - 23) (p ++ postOf 0 23 out) q ≡ (h ++ t) ++ drop (23 + length t) out
 laid p q h t out e d l =
     let same : putMid 23 (23 + length t - 23) (p ++ postOf 0 23 out) q ≡ putMid 23 (23 + length t - 23) (h ++ postOf 0 23 out) t =
-        λ i. putMid 23 (23 + length t - 23) (e i ++ postOf 0 23 out) (d i) in
+    λ i. putMid 23 (23 + length t - 23) (e i ++ postOf 0 23 out) (d i) in
     let front : take 23 (h ++ drop 23 out) ≡ h = take-at h (drop 23 out) 23 l in
     let k : 23 + length t - 23 ≡ length t = omega arith in
     let back : drop (23 + length t - 23) (drop 23 (h ++ drop 23 out)) ≡ drop (23 + length t) out =
-        ap (λ (n : ℕ). drop n (drop 23 (h ++ drop 23 out))) k ∙ ap (drop (length t)) (drop-at h (drop 23 out) 23 l)
-        ∙ drop-drop (length t) 23 out in
+    ap (λ (n : ℕ). drop n (drop 23 (h ++ drop 23 out))) k ∙ ap (drop (length t)) (drop-at h (drop 23 out) 23 l)
+    ∙ drop-drop (length t) 23 out in
     let parts : take 23 (h ++ drop 23 out) ++ (t ++ drop (23 + length t - 23) (drop 23 (h ++ drop 23 out))) ≡ h ++ (t ++ drop (23 + length t) out) =
-        λ i. front i ++ (t ++ back i) in
+    λ i. front i ++ (t ++ back i) in
     same ∙ parts ∙ sym (append-assoc h t (drop (23 + length t) out))

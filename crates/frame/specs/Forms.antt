@@ -13,10 +13,10 @@ use Rattle.std.specs.declared.option.Option.the-variants.{Some, None}
 pub data Spot : Type 0 where
   digit : Spot
   capital : Spot
-  figure : Spot     -- a digit or a capital letter
-  plain : Spot      -- a free byte, CR or LF
-  mark : Spot       -- J or N
-  just : ℕ → Spot   -- this byte alone
+  figure : Spot  -- a digit or a capital letter
+  plain : Spot  -- a free byte, CR or LF
+  mark : Spot  -- J or N
+  just : ℕ → Spot  -- this byte alone
 
 abbrev pub meets : Spot → ℕ → Bool
 meets digit b = isDigit b

@@ -36,7 +36,8 @@ headerOf f = record {
   code = value (take 3 (drop 5 f));
   number = value (take 6 (drop 9 f));
   mark = markOf (getD f 16 0);
-  length = value (take 4 (drop 18 f)) }
+  length = value (take 4 (drop 18 f));
+}
 
 -- a value, unless a byte is wrong
 abbrev pub unless : {A : Type 0} → Option ℕ → A → Result A FrameFault

@@ -2,6 +2,7 @@
 use Prim.Native.Nat.{ℕ}
 use lib.Dec.{eqb}
 use mathlib.Core.Bool.{Bool, true, false, cond}
+use mathlib.Core.List.{List, [], _∷_}
 use Rattle.frame.specs.declared.kinds.Kind.{Kind}
 use Rattle.frame.specs.declared.kinds.Kind.the-variants.{LogOn, LoggedOn, LogOff, LoggedOff, Retrieval, Trade, ContractNote, FundExecution, Execution, Event, Inquiry, Answer, OwnUse, NoteOrders}
 use Rattle.frame.specs.declared.kinds.Mark.{Mark}
@@ -25,14 +26,18 @@ code Answer = 596
 code OwnUse = 598
 code NoteOrders = 599
 
--- the type of a number
+-- all types, and the one of them with a given number
+abbrev pub kinds : List Kind
+kinds =
+    LogOn ∷ (LoggedOn ∷ (LogOff ∷ (LoggedOff ∷ (Retrieval ∷ (Trade ∷ (ContractNote ∷ (FundExecution ∷ (Execution ∷ (Event ∷ (Inquiry ∷ (Answer ∷ (OwnUse
+    ∷ (NoteOrders ∷ [])))))))))))))
+
+abbrev pub among : List Kind → ℕ → Option Kind
+among [] n = None
+among (k ∷ ks) n = cond (eqb n (code k)) (Some k) (among ks n)
+
 abbrev pub kindOf : ℕ → Option Kind
-kindOf n =
-    cond (eqb n 0) (Some LogOn) (cond (eqb n 1) (Some LoggedOn) (cond (eqb n 2) (Some LogOff) (cond (eqb n 3) (Some LoggedOff)
-    (cond (eqb n 20) (Some Retrieval) (cond (eqb n 511) (Some Trade) (cond (eqb n 512) (Some ContractNote)
-    (cond (eqb n 515) (Some FundExecution) (cond (eqb n 519) (Some Execution) (cond (eqb n 551) (Some Event)
-    (cond (eqb n 595) (Some Inquiry) (cond (eqb n 596) (Some Answer) (cond (eqb n 598) (Some OwnUse)
-    (cond (eqb n 599) (Some NoteOrders) None)))))))))))))
+kindOf n = among kinds n
 
 -- the numbered messages: 512, 515, 519, 551, 595, 596, 598 and 599
 abbrev pub arrives : Kind → Bool

@@ -3,6 +3,7 @@ pub mod Arrivals
 pub mod Faults
 pub mod Forms
 pub mod Headers
+pub mod Judging
 pub mod Kinds
 pub mod Sessions
 pub mod Texts

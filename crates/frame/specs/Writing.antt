@@ -2,16 +2,20 @@
 use Prim.Native.Nat.{ℕ, _+_}
 use lib.Dec.{ltb}
 use lib.ListN.{length, drop}
-use mathlib.Core.Bool.{cond}
+use mathlib.Core.Bool.{true, cond}
 use mathlib.Core.List.{List, [], _∷_, _++_}
 use mathlib.Core.Path.{_≡_}
+use Rattle.frame.specs.Arrivals.{contentsOf, judged}
 use Rattle.frame.specs.Headers.{readHeader, textOf}
-use Rattle.frame.specs.Kinds.{code, markByte}
+use Rattle.frame.specs.Judging.{InCircle}
+use Rattle.frame.specs.Kinds.{arrives, code, markByte}
+use Rattle.frame.specs.declared.arrival.Circle.{Circle}
 use Rattle.frame.specs.declared.faults.FrameFault.{FrameFault}
 use Rattle.frame.specs.declared.faults.FrameFault.the-variants.{Size, Malformed}
 use Rattle.frame.specs.declared.faults.LineFault.{LineFault}
 use Rattle.frame.specs.declared.faults.LineFault.the-variants.{InFrame, Short}
 use Rattle.frame.specs.declared.header.Header.{Header}
+use Rattle.frame.specs.declared.texts.Answer.{Answer}
 use Rattle.frame.specs.declared.write.Heading.{Heading}
 use Rattle.notation.specs.Digits.{digits}
 use Rattle.std.specs.declared.option.Option.{Option}
@@ -54,3 +58,9 @@ headerGiven h n = record { member = h .member; code = code (h .kind); number = h
 -- the bytes f read as the heading and the text that were given
 abbrev pub ReadsBack : Heading → List ℕ → List ℕ → Type 0
 ReadsBack h t f = (readHeader f ≡ Ok (headerGiven h (length t))) × (textOf (headerGiven h (length t)) f ≡ Ok (t, 23))
+
+-- the bytes f, judged for the member and a circle that they were written for, are taken as what was given
+abbrev pub JudgedBack : Heading → List ℕ → List ℕ → Type 0
+JudgedBack h t f =
+    (c : Circle) (a : Option Answer) → arrives (h .kind) ≡ true → contentsOf (h .kind) t ≡ Ok a → InCircle c (h .number) →
+    judged (h .member) c f ≡ Ok (record { number = record { 0 = h .number }; kind = h .kind; text = 23; answer = a })

@@ -1,7 +1,10 @@
 // The judge of an arriving frame: what it says, or why it is turned away.
 ghost use Rattle.frame.specs.Arrivals.{arriving, contentsOf, messageOf, forLine, judged};
+ghost use Rattle.frame.specs.Judging.{Judged, told};
+ghost use Rattle.frame.specs.declared.arrival.Arrival.{Arrival};
+ghost use Rattle.notation.specs.declared.refusals.Refusal.{Refusal};
+ghost use Rattle.std.specs.declared.result.Result.{Result};
 ghost use mathlib.Core.Path.{_≡_};
-
 use crate::faults::FrameFault;
 use crate::faults::FrameFromField;
 use crate::faults::LineFault;
@@ -50,7 +53,11 @@ pub fn read_message(frame: &[u8]) -> Result<Message, FrameFault>
     };
     let text = header.text(frame)?;
     let answer = read_contents(kind, text.bytes)?;
-    Ok(Message { header, kind, answer })
+    Ok(Message {
+        header,
+        kind,
+        answer,
+    })
 }
 
 // The type with this number, if the exchange sends it under a number of its own.
@@ -85,13 +92,20 @@ impl Message {
         if number < circle.first.0 || number > circle.last.0 {
             return Err(LineFault::Number);
         }
-        Ok(Arrival { number: Osn(number), kind: self.kind, text: TEXT_AT, answer: self.answer })
+        Ok(Arrival {
+            number: Osn(number),
+            kind: self.kind,
+            text: TEXT_AT,
+            answer: self.answer,
+        })
     }
 }
 
 // Judges an arriving frame for a line of this member and circle: the frame and its text first, then the member and the circle.
 pub fn judge(frame: &[u8], member: u16, circle: Circle) -> Result<Arrival, LineFault>
     ensures answer { λ r. ⌜ r ≡ judged member circle (now (frame .entry)) ⌝ }
+    ensures by_the_rules { λ r. ⌜ Judged member circle (now (frame .entry)) (told r) ⌝ }
+    ensures one_answer { λ r. ⌜ ((q : Result Arrival Refusal) → Judged member circle (now (frame .entry)) q → q ≡ told r) ⌝ }
 {
     let message = read_message(frame)?;
     let arrival = message.arrive_at(member, circle)?;

@@ -2,7 +2,6 @@
 ghost use Rattle.frame.specs.Faults.{frameRefusal, lineRefusal, inFrame, inFrameField};
 ghost use Rattle.frame.specs.declared.faults.LineFault.the-variants.{InFrame};
 ghost use mathlib.Core.Path.{_≡_};
-
 use notation::refusals::FieldFault;
 use notation::refusals::Layer;
 use notation::refusals::Refusal;
@@ -30,10 +29,26 @@ impl FrameFault {
         ensures as_numbered { λ r. ⌜ r ≡ frameRefusal (now (self .entry)) ⌝ }
     {
         match self {
-            FrameFault::Size => Refusal { number: 11, layer: Layer::Frame, offset: 0 },
-            FrameFault::Malformed(at) => Refusal { number: 12, layer: Layer::Frame, offset: *at },
-            FrameFault::NotTaken => Refusal { number: 13, layer: Layer::Frame, offset: 5 },
-            FrameFault::Length => Refusal { number: 14, layer: Layer::Frame, offset: 18 },
+            FrameFault::Size => Refusal {
+                number: 11,
+                layer: Layer::Frame,
+                offset: 0,
+            },
+            FrameFault::Malformed(at) => Refusal {
+                number: 12,
+                layer: Layer::Frame,
+                offset: *at,
+            },
+            FrameFault::NotTaken => Refusal {
+                number: 13,
+                layer: Layer::Frame,
+                offset: 5,
+            },
+            FrameFault::Length => Refusal {
+                number: 14,
+                layer: Layer::Frame,
+                offset: 18,
+            },
             FrameFault::InText(fault) => fault.refusal(),
         }
     }
@@ -45,7 +60,9 @@ pub impl From<TextFault> for FrameFault as FrameFromText {
 
     fn from(e: TextFault) -> FrameFault {
         match e {
-            TextFault::Label(at) => FrameFault::InText(TextFault::Label(at.saturating_add(TEXT_AT))),
+            TextFault::Label(at) => FrameFault::InText(TextFault::Label(at.saturating_add(
+                TEXT_AT,
+            ))),
             TextFault::Within(fault) => FrameFault::from(fault),
         }
     }
@@ -90,7 +107,11 @@ impl LineFault {
             LineFault::Member => 31,
             LineFault::Number => 32,
         };
-        Refusal { number, layer: Layer::Line, offset: 0 }
+        Refusal {
+            number,
+            layer: Layer::Line,
+            offset: 0,
+        }
     }
 }
 

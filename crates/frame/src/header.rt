@@ -4,7 +4,6 @@ ghost use Rattle.frame.specs.Headers.{readHeader, readNumber, readDigits, read
 ghost use Rattle.std.specs.Vec.{made};
 ghost use lib.ListN.{length};
 ghost use mathlib.Core.Path.{_≡_};
-
 use crate::faults::FrameFault;
 use crate::faults::TEXT_AT;
 use crate::kinds::Mark;
@@ -34,7 +33,10 @@ impl Header {
         if frame.len() != TEXT_AT + self.length as usize {
             return Err(FrameFault::Length);
         }
-        Ok(Part { bytes: &frame[TEXT_AT..], at: TEXT_AT })
+        Ok(Part {
+            bytes: &frame[TEXT_AT..],
+            at: TEXT_AT,
+        })
     }
 }
 
@@ -50,7 +52,13 @@ pub fn read_header(frame: &[u8]) -> Result<Header, FrameFault>
     let number = read_number(frame, 9, 6)?;
     let mark = read_mark(frame)?;
     let length = read_number(frame, 18, 4)?;
-    Ok(Header { member: member as u16, code: code as u16, number, mark, length: length as u16 })
+    Ok(Header {
+        member: member as u16,
+        code: code as u16,
+        number,
+        mark,
+        length: length as u16,
+    })
 }
 
 // One field of digits that begins at `at`, with the comma that closes it.

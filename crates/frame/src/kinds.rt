@@ -85,7 +85,12 @@ impl Kind {
         ensures numbered_messages_alone { λ r. ⌜ r ≡ arrives self ⌝ }
     {
         match self {
-            Kind::LogOn | Kind::LoggedOn | Kind::LogOff | Kind::LoggedOff | Kind::Retrieval | Kind::Trade => false,
+            Kind::LogOn
+            | Kind::LoggedOn
+            | Kind::LogOff
+            | Kind::LoggedOff
+            | Kind::Retrieval
+            | Kind::Trade => false,
             _ => true,
         }
     }

@@ -4,7 +4,6 @@ ghost use Rattle.std.specs.Vec.{made};
 ghost use Rattle.std.specs.declared.result.Result.the-variants.{Ok};
 ghost use lib.ListN.{length};
 ghost use mathlib.Core.Path.{_≡_};
-
 use crate::faults::FrameFault;
 use crate::header::read_digits;
 use crate::header::read_number;
@@ -13,7 +12,10 @@ use crate::write::last_digit;
 use notation::refusals::FieldFault;
 use notation::refusals::Why;
 
-const NOT_OF_THE_NOTATION: FieldFault = FieldFault { why: Why::Notation, offset: 0 };
+const NOT_OF_THE_NOTATION: FieldFault = FieldFault {
+    why: Why::Notation,
+    offset: 0,
+};
 
 // The messages that are asked for once more, from the first to the last.
 #[derive(Clone, Copy)]
@@ -68,5 +70,8 @@ fn read_ends(text: &[u8]) -> Result<Range, FrameFault>
 {
     let from = read_number(text, 0, 6)?;
     let to = read_digits(text, 7, 6)?;
-    Ok(Range { from: Osn(from), to: Osn(to) })
+    Ok(Range {
+        from: Osn(from),
+        to: Osn(to),
+    })
 }

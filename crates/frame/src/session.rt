@@ -5,7 +5,6 @@ ghost use Rattle.frame.specs.declared.kinds.Kind.the-variants.{LogOn, LoggedOn
 ghost use Rattle.std.specs.Results.{Cases};
 ghost use lib.ListN.{length};
 ghost use mathlib.Core.Path.{_≡_};
-
 use crate::faults::FrameFault;
 use crate::faults::LineFault;
 use crate::faults::LineFromFrame;
@@ -120,7 +119,16 @@ fn write_request(out: &mut [u8], member: u16, kind: Kind) -> Result<usize, LineF
     ensures answer { λ r. ⌜ r ≡ request kind member (length (now (out .entry))) ⌝ }
     ensures output { λ r. ⌜ now (out .exit) ≡ requestAfter kind member (now (out .entry)) ⌝ }
 {
-    let n = write_frame(out, Heading { member, kind, number: 0, mark: Mark::Fresh }, &[])?;
+    let n = write_frame(
+        out,
+        Heading {
+            member,
+            kind,
+            number: 0,
+            mark: Mark::Fresh,
+        },
+        &[],
+    )?;
     Ok(n)
 }
 

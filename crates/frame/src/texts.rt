@@ -7,7 +7,6 @@ ghost use Rattle.std.specs.declared.option.Option.the-variants.{Some, None};
 ghost use lib.ListN.{length, replicate};
 ghost use mathlib.Core.Bool.{cond};
 ghost use mathlib.Core.Path.{_≡_};
-
 use crate::header::read_number;
 use crate::kinds::Isn;
 use notation::classes::is_capital;
@@ -32,7 +31,10 @@ pub struct Answer {
     pub verdict: Verdict,
 }
 
-const NOT_OF_THE_NOTATION: FieldFault = FieldFault { why: Why::Notation, offset: 0 };
+const NOT_OF_THE_NOTATION: FieldFault = FieldFault {
+    why: Why::Notation,
+    offset: 0,
+};
 
 // `ISN,B,` and a trade number, or `ISN,A,` and a reason.
 pub fn read_answer(text: &[u8]) -> Result<Answer, FieldFault>
@@ -45,7 +47,10 @@ pub fn read_answer(text: &[u8]) -> Result<Answer, FieldFault>
         b'B' if is_trade_number(&text[9..]) => Verdict::Confirmed,
         b'A' if is_reason(&text[9..]) => Verdict::Rejected,
         b'B' | b'A' => return Err(NOT_OF_THE_NOTATION),
-        _ => return Err(FieldFault { why: Why::Code, offset: 7 }),
+        _ => return Err(FieldFault {
+            why: Why::Code,
+            offset: 7,
+        }),
     };
     Ok(Answer { isn, verdict })
 }
@@ -126,6 +131,9 @@ pub fn check_plain(text: &[u8]) -> Result<(), FieldFault>
     }
     match first_outside(text, Allowed::Plain) {
         None => Ok(()),
-        Some(offset) => Err(FieldFault { why: Why::Notation, offset }),
+        Some(offset) => Err(FieldFault {
+            why: Why::Notation,
+            offset,
+        }),
     }
 }

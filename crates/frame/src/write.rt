@@ -1,11 +1,10 @@
 // Writing a frame into a lent output.
 ghost use Prim.Native.Nat.{_+_, _%_, _≤_, _<_};
-ghost use Rattle.frame.specs.Writing.{headText, frameText, unwritable, allowed, wrote, outputAfter, ReadsBack};
+ghost use Rattle.frame.specs.Writing.{headText, frameText, unwritable, allowed, wrote, outputAfter, ReadsBack, JudgedBack};
 ghost use Rattle.std.specs.Results.{Cases};
 ghost use Rattle.std.specs.Vec.{made};
 ghost use lib.ListN.{length, take};
 ghost use mathlib.Core.Path.{_≡_};
-
 use crate::faults::FrameFault;
 use crate::faults::LineFault;
 use crate::faults::LineFromFrame;
@@ -87,6 +86,7 @@ pub fn write_frame(out: &mut [u8], heading: Heading, text: &[u8]) -> Result<usiz
     ensures output { λ r. ⌜ now (out .exit) ≡ outputAfter r (frameText heading (now (text .entry))) (now (out .entry)) ⌝ }
     ensures refusal_changes_nothing { λ r. ⌜ Cases r (λ _. Unit {0}) (λ _. now (out .exit) ≡ now (out .entry)) ⌝ }
     ensures reads_back { λ r. ⌜ made r (λ n. ReadsBack heading (now (text .entry)) (take n (now (out .exit)))) ⌝ }
+    ensures judged_as_written { λ r. ⌜ made r (λ n. JudgedBack heading (now (text .entry)) (take n (now (out .exit)))) ⌝ }
 {
     heading.check(text.len())?;
     let n = TEXT_AT + text.len();

@@ -37,7 +37,12 @@ fn run(rt: &LibcRuntime) -> Result<(), AnyError> {
             let frame = fs::read(rt, name.as_str())?;
             inspect_frame(rt, &options, &mut tally, &frame)?;
         } else {
-            inspect_lines(rt, &options, &mut tally, BufReader::new(fs::open(rt, name.as_str())?))?;
+            inspect_lines(
+                rt,
+                &options,
+                &mut tally,
+                BufReader::new(fs::open(rt, name.as_str())?),
+            )?;
         }
     }
     tally.tell(rt)?;
@@ -45,14 +50,31 @@ fn run(rt: &LibcRuntime) -> Result<(), AnyError> {
 }
 
 fn usage(rt: &LibcRuntime) -> io::Result<()> {
-    eprintln!(rt, "usage: inspect [--member NNNN] [--circle FIRST-LAST] [--whole] [FILE ...]")?;
-    eprintln!(rt, "Frames come one a line, from the files or from standard input; a line ends at LF alone.")?;
-    eprintln!(rt, "With --whole each file is one frame, with every byte as it stands.")?;
-    eprintln!(rt, "The member is 7999 and the circle 600001-999999 unless they are given.")
+    eprintln!(
+        rt,
+        "usage: inspect [--member NNNN] [--circle FIRST-LAST] [--whole] [FILE ...]"
+    )?;
+    eprintln!(
+        rt,
+        "Frames come one a line, from the files or from standard input; a line ends at LF alone."
+    )?;
+    eprintln!(
+        rt,
+        "With --whole each file is one frame, with every byte as it stands."
+    )?;
+    eprintln!(
+        rt,
+        "The member is 7999 and the circle 600001-999999 unless they are given."
+    )
 }
 
 // One frame a line; a line ends at LF, and a CR before it is a byte of the frame.
-fn inspect_lines<R: Read + Drop>(rt: &LibcRuntime, options: &Options, tally: &mut Tally, input: BufReader<R>) -> io::Result<()> {
+fn inspect_lines<R: Read + Drop>(
+    rt: &LibcRuntime,
+    options: &Options,
+    tally: &mut Tally,
+    input: BufReader<R>,
+) -> io::Result<()> {
     let mut input = input;
     let mut line = Vec::new(rt.alloc());
     for _ in 0..u64::MAX {
@@ -68,7 +90,12 @@ fn inspect_lines<R: Read + Drop>(rt: &LibcRuntime, options: &Options, tally: &mu
     Ok(())
 }
 
-fn inspect_frame(rt: &LibcRuntime, options: &Options, tally: &mut Tally, frame: &[u8]) -> io::Result<()> {
+fn inspect_frame(
+    rt: &LibcRuntime,
+    options: &Options,
+    tally: &mut Tally,
+    frame: &[u8],
+) -> io::Result<()> {
     let message = match read_message(frame) {
         Ok(message) => message,
         Err(fault) => return tell_refusal(rt, tally, frame, fault.refusal()),

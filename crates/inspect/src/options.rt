@@ -17,8 +17,17 @@ pub struct Options {
 
 // The options of this call, or nothing where a word is not understood.
 pub fn read_options(rt: &LibcRuntime) -> Result<Option<Options>, AnyError> {
-    let circle = Circle { first: Osn(600001), last: Osn(999999) };
-    let mut options = Options { help: false, whole: false, member: 7999, circle, files: Vec::new(rt.alloc()) };
+    let circle = Circle {
+        first: Osn(600001),
+        last: Osn(999999),
+    };
+    let mut options = Options {
+        help: false,
+        whole: false,
+        member: 7999,
+        circle,
+        files: Vec::new(rt.alloc()),
+    };
     let mut words = env::args(rt)?;
     let _program = words.next();
     for _ in 0..u64::MAX {
@@ -76,5 +85,8 @@ fn read_circle(text: &str) -> Option<Circle> {
     if first < 1 || first > last || last > 999999 {
         return None;
     }
-    Some(Circle { first: Osn(first), last: Osn(last) })
+    Some(Circle {
+        first: Osn(first),
+        last: Osn(last),
+    })
 }

@@ -17,7 +17,11 @@ pub struct Tally {
 
 impl Tally {
     pub fn new() -> Tally {
-        Tally { read: 0, taken: 0, refused: [0; 40] }
+        Tally {
+            read: 0,
+            taken: 0,
+            refused: [0; 40],
+        }
     }
 
     // Counts one frame more, and gives its place among all.
@@ -106,7 +110,10 @@ pub fn tell_message(rt: &LibcRuntime, tally: &mut Tally, message: &Message) -> i
         Mark::Retrieved => "retrieved",
         Mark::Fresh => "not retrieved",
     };
-    print!(rt, "frame {place}: number {number}, type {code:03} ({name}), {mark}, ")?;
+    print!(
+        rt,
+        "frame {place}: number {number}, type {code:03} ({name}), {mark}, "
+    )?;
     if let Some(answer) = message.answer {
         let isn = answer.isn.0;
         let verdict = match answer.verdict {
@@ -120,14 +127,22 @@ pub fn tell_message(rt: &LibcRuntime, tally: &mut Tally, message: &Message) -> i
 }
 
 // A frame that would be turned away, with the byte where the refusal stands.
-pub fn tell_refusal(rt: &LibcRuntime, tally: &mut Tally, frame: &[u8], refusal: Refusal) -> io::Result<()> {
+pub fn tell_refusal(
+    rt: &LibcRuntime,
+    tally: &mut Tally,
+    frame: &[u8],
+    refusal: Refusal,
+) -> io::Result<()> {
     let place = tally.next();
     tally.count_refused(refusal.number);
     let number = refusal.number;
     let words = meaning(number);
     let layer = layer_name(refusal.layer);
     let offset = refusal.offset;
-    print!(rt, "frame {place}: refused: {number} ({words}), layer {layer}, byte {offset}")?;
+    print!(
+        rt,
+        "frame {place}: refused: {number} ({words}), layer {layer}, byte {offset}"
+    )?;
     match refusal.layer {
         Layer::Line => println!(rt, ""),
         _ => show_byte(rt, frame.get(offset).copied()),

@@ -30,14 +30,14 @@ valueAfter-digits zero v n = omega (arith, mod-one n)
 valueAfter-digits (suc w) v n =
     let d : ℕ = n / 10 ^ w % 10 in
     let ih : valueAfter (v * 10 + (d + 48 - 48)) (digits w n) ≡ (v * 10 + (d + 48 - 48)) * 10 ^ w + n % 10 ^ w =
-        valueAfter-digits w (v * 10 + (d + 48 - 48)) n in
+    valueAfter-digits w (v * 10 + (d + 48 - 48)) n in
     let p : 10 ^ suc w ≡ 10 * 10 ^ w = pow-succ' 10 w in
     let m : n % (10 * 10 ^ w) ≡ d * 10 ^ w + n % 10 ^ w = mod-mul n (omega arith) (one-le-pow w 10 (omega arith)) in
     let q : n % 10 ^ suc w ≡ n % (10 * 10 ^ w) = ap (λ (x : ℕ). n % x) p in
     let e : v * 10 ^ suc w ≡ v * 10 * 10 ^ w = ap (λ (x : ℕ). v * x) p ∙ sym (mul-assoc v 10 (10 ^ w)) in
     let z : d + 48 - 48 ≡ d = omega arith in
     let a : (v * 10 + (d + 48 - 48)) * 10 ^ w ≡ v * 10 * 10 ^ w + d * 10 ^ w =
-        ap (λ (x : ℕ). (v * 10 + x) * 10 ^ w) z ∙ add-mul (v * 10) d (10 ^ w) in
+    ap (λ (x : ℕ). (v * 10 + x) * 10 ^ w) z ∙ add-mul (v * 10) d (10 ^ w) in
     ih ∙ omega (arith, m, q, e, a)
 
 -- a number below 10 ^ w reads back from its w digits
@@ -65,7 +65,7 @@ valueAfter-below v (d ∷ ds) (h, a) =
     let ih : valueAfter (v * 10 + (d - 48)) ds < (v * 10 + (d - 48) + 1) * 10 ^ length ds = valueAfter-below (v * 10 + (d - 48)) ds a in
     let p : 10 ^ suc (length ds) ≡ 10 * 10 ^ length ds = pow-succ' 10 (length ds) in
     let m : (v * 10 + (d - 48) + 1) * 10 ^ length ds ≤ ((v + 1) * 10) * 10 ^ length ds =
-        mul-le-mul-right (10 ^ length ds) (omega arith) in
+    mul-le-mul-right (10 ^ length ds) (omega arith) in
     let q : (v + 1) * 10 ^ suc (length ds) ≡ (v + 1) * 10 * 10 ^ length ds =
-        ap (λ (x : ℕ). (v + 1) * x) p ∙ sym (mul-assoc (v + 1) 10 (10 ^ length ds)) in
+    ap (λ (x : ℕ). (v + 1) * x) p ∙ sym (mul-assoc (v + 1) 10 (10 ^ length ds)) in
     omega arith

@@ -49,7 +49,11 @@ impl FieldFault {
             Why::Moment => 18,
             Why::Pieces => 19,
         };
-        Refusal { number, layer: Layer::Field, offset: self.offset }
+        Refusal {
+            number,
+            layer: Layer::Field,
+            offset: self.offset,
+        }
     }
 }
 
@@ -66,7 +70,11 @@ impl TextFault {
         ensures as_numbered { λ r. ⌜ r ≡ textRefusal (now (self .entry)) ⌝ }
     {
         match self {
-            TextFault::Label(offset) => Refusal { number: 15, layer: Layer::Text, offset: *offset },
+            TextFault::Label(offset) => Refusal {
+                number: 15,
+                layer: Layer::Text,
+                offset: *offset,
+            },
             TextFault::Within(fault) => fault.refusal(),
         }
     }

@@ -11,7 +11,8 @@ pub returns-then-not-is-digit : need.returns-then-not-is-digit
 returns-then-not-is-digit c = record {
   answer = stops (c .args .frame .now) (c .args .at) (c .args .width) (c .loop-i .i) (c .loop-i .value) (c .loop-i-test .taken)
       (c .if-not-is-digit .ensures tt .digits-alone) (c .loop-i .inv);
-  below = tt }
+  below = tt;
+}
 
 pub loop-i-again : need.loop-i-again
 loop-i-again c =
@@ -23,4 +24,5 @@ returns c =
     let h : c .loop-i .i ≡ c .args .width = omega arith in
     record {
       answer = ends (c .args .frame .now) (c .args .at) (c .args .width) (c .loop-i .i) (c .loop-i .value) h (c .loop-i .inv);
-      below = subst (λ (n : ℕ). c .loop-i .value < 10 ^ n) h (c .loop-i .inv .2) }
+      below = subst (λ (n : ℕ). c .loop-i .value < 10 ^ n) h (c .loop-i .inv .2);
+    }

@@ -61,5 +61,7 @@ returns c =
     let w = at-number f _ v (c .in-Continue-code .ensures tt .answer) in
     let x = at-mark f _ w (c .in-Continue-number .ensures tt .answer) in
     let y = at-length f _ x (c .in-Continue-mark .ensures tt .answer) in
-    record { answer = all-read f _ _ _ _ _ y (c .in-Continue-member .ensures tt .answer) (c .in-Continue-code .ensures tt .answer)
-        (c .in-Continue-number .ensures tt .answer) (c .in-Continue-mark .ensures tt .answer) (c .in-Continue-length .ensures tt .answer) }
+    record {
+      answer = all-read f _ _ _ _ _ y (c .in-Continue-member .ensures tt .answer) (c .in-Continue-code .ensures tt .answer)
+          (c .in-Continue-number .ensures tt .answer) (c .in-Continue-mark .ensures tt .answer) (c .in-Continue-length .ensures tt .answer);
+    }

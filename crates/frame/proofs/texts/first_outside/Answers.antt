@@ -12,7 +12,8 @@ loop-i-again c =
 
 pub returns-then-not-has : need.returns-then-not-has
 returns-then-not-has c = record {
-  first = all-stop (c .args .text .now) (spotOf (c .args .allowed)) (c .loop-i .i) (c .loop-i-test .taken) (sym (c .if-not-has .ensures tt .by-kind)) (c .loop-i .inv) }
+  first = all-stop (c .args .text .now) (spotOf (c .args .allowed)) (c .loop-i .i) (c .loop-i-test .taken) (sym (c .if-not-has .ensures tt .by-kind)) (c .loop-i .inv);
+}
 
 pub returns : need.returns
 returns c = record { first = all-end (c .args .text .now) (spotOf (c .args .allowed)) (c .loop-i .i) (c .loop-i-test .left) (c .loop-i .inv) }
