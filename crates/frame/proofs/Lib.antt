@@ -1,5 +1,7 @@
 pub mod Answered
+pub mod Canonical
 pub mod Checks
+pub mod Confirmed
 pub mod Firsts
 pub mod Forms
 pub mod Headings

@@ -11,7 +11,7 @@ use Rattle.frame.proofs.Headings.{sized}
 use Rattle.frame.proofs.Written.{length-head}
 use Rattle.frame.specs.Forms.{run, closed, firstWrong, wrongFrom, meets}
 use Rattle.frame.specs.Forms.Spot.{mark, just}
-use Rattle.frame.specs.Headers.{header, headerOf, markOf, readHeader, textOf, unless}
+use Rattle.frame.specs.Headers.{headBytes, header, headerOf, markOf, readHeader, textOf, unless}
 use Rattle.frame.specs.Kinds.{code, markByte}
 use Rattle.frame.specs.Writing.{headText, frameText, unwritable, headerGiven, ReadsBack}
 use Rattle.frame.specs.declared.faults.FrameFault.{FrameFault}
@@ -49,7 +49,7 @@ fits-mark Fresh = refl
 
 -- so does the whole header
 pub fits-head : (h : Heading) (n : ℕ) → Fits header (headText h n)
-unfolding headText
+unfolding headBytes
 fits-head h n =
     let p1 = mark ∷ (just 44 ∷ closed 4) in
     let s1 = markByte (h .mark) ∷ (44 ∷ (digits 4 n ++ 44 ∷ [])) in
@@ -88,7 +88,7 @@ within : (h : Heading) (n : ℕ) → unwritable h n ≡ None → (n ≤ 1000) ×
 within h n e = (grind (arith, tells), grind (arith, tells), grind (arith, tells))
 
 pub header-back : (h : Heading) (t : List ℕ) → unwritable h (length t) ≡ None → headerOf (frameText h t) ≡ headerGiven h (length t)
-unfolding headText
+unfolding headBytes
 header-back h t e =
     let s = within h (length t) e in
     let em : value (digits 4 (h .member)) ≡ h .member = value-digits 4 (h .member) (omega (arith, s .1)) in

@@ -6,6 +6,7 @@ use mathlib.Core.List.{List, [], _∷_, _++_, append-assoc}
 use mathlib.Core.Path.{_≡_, refl, sym, ap, _∙_}
 use native.Mathlib.Nat.{div-one}
 use native.Mathlib.Omega.{arith}
+use Rattle.frame.specs.Headers.{headBytes}
 use Rattle.frame.specs.Writing.{headText}
 use Rattle.frame.specs.declared.write.Heading.{Heading}
 use Rattle.std.proofs.shelf.Lists.{take-at, drop-at, drop-drop}
@@ -15,7 +16,7 @@ pub ones : (n : ℕ) → n % 10 + 48 ≡ n / 1 % 10 + 48
 ones n = ap (λ (x : ℕ). x % 10 + 48) (sym (div-one n))
 
 pub length-head : (h : Heading) (n : ℕ) → length (headText h n) ≡ 23
-unfolding headText
+unfolding headBytes
 length-head h n = refl
 
 pub laid : (p q h t out : List ℕ) → p ≡ h → q ≡ t → length h ≡ 23 →

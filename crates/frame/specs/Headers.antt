@@ -4,15 +4,17 @@ use lib.Dec.{leb, eqb}
 use lib.ListN.{length, getD, take, drop}
 use mathlib.Core.Bool.{Bool, cond, _&&_}
 use mathlib.Core.List.{List, [], _∷_, _++_}
+use mathlib.Core.Path.{_≡_}
 use Rattle.frame.specs.Forms.{Spot, run, closed, firstWrong, wrongFrom}
 use Rattle.frame.specs.Forms.Spot.{mark, just}
+use Rattle.frame.specs.Kinds.{markByte}
 use Rattle.frame.specs.declared.faults.FrameFault.{FrameFault}
 use Rattle.frame.specs.declared.faults.FrameFault.the-variants.{Size, Malformed, Length}
 use Rattle.frame.specs.declared.header.Header.{Header}
 use Rattle.frame.specs.declared.header.Part.{Part}
 use Rattle.frame.specs.declared.kinds.Mark.{Mark}
 use Rattle.frame.specs.declared.kinds.Mark.the-variants.{Retrieved, Fresh}
-use Rattle.notation.specs.Digits.{value}
+use Rattle.notation.specs.Digits.{value, digits}
 use Rattle.std.specs.declared.option.Option.{Option}
 use Rattle.std.specs.declared.option.Option.the-variants.{Some, None}
 use Rattle.std.specs.declared.result.Result.{Result}
@@ -68,3 +70,12 @@ textOf h f = cond (eqb (length f) (23 + h .length)) (Ok (drop 23 f, 23)) (Err Le
 abbrev pub seen : Result Part FrameFault → Result (List ℕ × ℕ) FrameFault
 seen (Ok p) = Ok (p .bytes .now, p .at)
 seen (Err e) = Err e
+
+-- a header as it is written: member, type, number, mark and length, each closed by a comma
+unfoldable pub headBytes : ℕ → ℕ → ℕ → Mark → ℕ → List ℕ
+headBytes m c n k l =
+    digits 4 m ++ (44 ∷ (digits 3 c ++ (44 ∷ (digits 6 n ++ (44 ∷ (markByte k ∷ (44 ∷ (digits 4 l ++ (44 ∷ [])))))))))
+
+-- the bytes f are what this header is written as, and then a text
+abbrev pub WrittenAs : Header → List ℕ → Type 0
+WrittenAs h f = f ≡ headBytes (h .member) (h .code) (h .number) (h .mark) (h .length) ++ drop 23 f

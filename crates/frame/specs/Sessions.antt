@@ -1,11 +1,12 @@
 -- Sessions: what each step answers, and what it gives back.
-use Prim.Native.Nat.{ℕ}
+use Prim.Native.Nat.{ℕ, _≤_}
 use lib.Dec.{leb, eqb}
 use lib.ListN.{length}
-use mathlib.Core.Bool.{cond, _&&_}
+use mathlib.Core.Bool.{Bool, true, cond, _&&_}
 use mathlib.Core.List.{List, []}
+use mathlib.Core.Path.{_≡_}
 use Rattle.frame.specs.Arrivals.{andThen, raised}
-use Rattle.frame.specs.Headers.{readHeader}
+use Rattle.frame.specs.Headers.{headBytes, readHeader}
 use Rattle.frame.specs.Kinds.{code}
 use Rattle.frame.specs.Writing.{frameText, outputAfter, unwritable, wrote}
 use Rattle.frame.specs.declared.faults.FrameFault.the-variants.{NotTaken, Length}
@@ -13,6 +14,7 @@ use Rattle.frame.specs.declared.faults.LineFault.{LineFault}
 use Rattle.frame.specs.declared.faults.LineFault.the-variants.{InFrame, Setting, Member, Number}
 use Rattle.frame.specs.declared.header.Header.{Header}
 use Rattle.frame.specs.declared.kinds.Kind.{Kind}
+use Rattle.frame.specs.declared.kinds.Mark.{Mark}
 use Rattle.frame.specs.declared.kinds.Mark.the-variants.{Fresh}
 use Rattle.frame.specs.declared.session.Off.{Off}
 use Rattle.frame.specs.declared.write.Heading.{Heading}
@@ -54,3 +56,12 @@ passed (Err e) s n = Err (s, e)
 abbrev pub writing : {S N : Type 0} → Result ℕ LineFault → S → N → Result (N × ℕ) (S × LineFault)
 writing (Ok k) s n = Ok (n, k)
 writing (Err e) s n = Err (s, e)
+
+-- the confirmation itself: this type, this member, number 000000, either mark, no text
+abbrev pub confirmation : Kind → ℕ → Mark → List ℕ
+confirmation k m mark = headBytes m (code k) 0 mark 0
+
+-- a frame is accepted exactly where it is the confirmation, byte for byte
+pub record AcceptsIt (k : Kind) (m : ℕ) (f : List ℕ) (accepted : Bool) : Type 0 where
+  pub nothing-else : accepted ≡ true → (mark : Mark) × (f ≡ confirmation k m mark)
+  pub always : m ≤ 9999 → (mark : Mark) → f ≡ confirmation k m mark → accepted ≡ true

@@ -6,9 +6,9 @@ use mathlib.Core.Bool.{true, cond}
 use mathlib.Core.List.{List, [], _∷_, _++_}
 use mathlib.Core.Path.{_≡_}
 use Rattle.frame.specs.Arrivals.{contentsOf, judged}
-use Rattle.frame.specs.Headers.{readHeader, textOf}
+use Rattle.frame.specs.Headers.{headBytes, readHeader, textOf}
 use Rattle.frame.specs.Judging.{InCircle}
-use Rattle.frame.specs.Kinds.{arrives, code, markByte}
+use Rattle.frame.specs.Kinds.{arrives, code}
 use Rattle.frame.specs.declared.arrival.Circle.{Circle}
 use Rattle.frame.specs.declared.faults.FrameFault.{FrameFault}
 use Rattle.frame.specs.declared.faults.FrameFault.the-variants.{Size, Malformed}
@@ -17,16 +17,14 @@ use Rattle.frame.specs.declared.faults.LineFault.the-variants.{InFrame, Short}
 use Rattle.frame.specs.declared.header.Header.{Header}
 use Rattle.frame.specs.declared.texts.Answer.{Answer}
 use Rattle.frame.specs.declared.write.Heading.{Heading}
-use Rattle.notation.specs.Digits.{digits}
 use Rattle.std.specs.declared.option.Option.{Option}
 use Rattle.std.specs.declared.option.Option.the-variants.{Some, None}
 use Rattle.std.specs.declared.result.Result.{Result}
 use Rattle.std.specs.declared.result.Result.the-variants.{Ok, Err}
 
--- the header in front of a text of n bytes: each field closed by a comma
-unfoldable pub headText : Heading → ℕ → List ℕ
-headText h n =
-    digits 4 (h .member) ++ (44 ∷ (digits 3 (code (h .kind)) ++ (44 ∷ (digits 6 (h .number) ++ (44 ∷ (markByte (h .mark) ∷ (44 ∷ (digits 4 n ++ (44 ∷ [])))))))))
+-- the header in front of a text of n bytes
+abbrev pub headText : Heading → ℕ → List ℕ
+headText h n = headBytes (h .member) (code (h .kind)) (h .number) (h .mark) n
 
 abbrev pub frameText : Heading → List ℕ → List ℕ
 frameText h text = headText h (length text) ++ text

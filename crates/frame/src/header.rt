@@ -1,6 +1,6 @@
 // The header of a frame: five fields, each closed by a comma: member (4 digits), type (3), number (6), mark (J or N), length of the text (4).
 ghost use Prim.Native.Nat.{ℕ, _+_, _^_, _<_, _≤_};
-ghost use Rattle.frame.specs.Headers.{readHeader, readNumber, readDigits, readMark, textOf, seen};
+ghost use Rattle.frame.specs.Headers.{readHeader, readNumber, readDigits, readMark, textOf, seen, WrittenAs};
 ghost use Rattle.std.specs.Vec.{made};
 ghost use lib.ListN.{length};
 ghost use mathlib.Core.Path.{_≡_};
@@ -43,6 +43,7 @@ impl Header {
 // The header of a frame of any bytes: 11 for its size, then 12 at the first wrong byte.
 pub fn read_header(frame: &[u8]) -> Result<Header, FrameFault>
     ensures answer { λ r. ⌜ r ≡ readHeader (now (frame .entry)) ⌝ }
+    ensures is_what_would_be_written { λ r. ⌜ made r (λ h. WrittenAs h (now (frame .entry))) ⌝ }
 {
     if frame.len() < 23 || frame.len() > 1023 {
         return Err(FrameFault::Size);

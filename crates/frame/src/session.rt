@@ -1,8 +1,8 @@
 // Sessions. Each state is a type of its own, used up by the step that leaves it: Off, Asked, Open, Leaving and Off again.
 // A refusal gives the session back. The fields are private, so that no session is made but by these steps.
-ghost use Rattle.frame.specs.Sessions.{newOff, confirmed, confirms, writing, request, passed, requestAfter};
+ghost use Rattle.frame.specs.Sessions.{newOff, confirmed, confirms, writing, request, passed, requestAfter, AcceptsIt};
 ghost use Rattle.frame.specs.declared.kinds.Kind.the-variants.{LogOn, LoggedOn, LogOff, LoggedOff};
-ghost use Rattle.std.specs.Results.{Cases};
+ghost use Rattle.std.specs.Results.{Cases, isOk};
 ghost use lib.ListN.{length};
 ghost use mathlib.Core.Path.{_≡_};
 use crate::faults::FrameFault;
@@ -71,6 +71,7 @@ impl Asked {
     // A 001 frame for this member opens the session.
     pub fn accept(self, frame: &[u8]) -> Result<Open, (Asked, LineFault)>
         ensures answer { λ r. ⌜ r ≡ passed (confirmed LoggedOn (self .member) (now (frame .entry))) self (record { member = self .member }) ⌝ }
+        ensures accepts_the_confirmation_alone { λ r. ⌜ AcceptsIt LoggedOn (self .member) (now (frame .entry)) (isOk r) ⌝ }
     {
         match check_confirmed(frame, self.member, Kind::LoggedOn) {
             Ok(()) => {
@@ -103,6 +104,7 @@ impl Leaving {
     // A 003 frame for this member ends the session.
     pub fn accept(self, frame: &[u8]) -> Result<Off, (Leaving, LineFault)>
         ensures answer { λ r. ⌜ r ≡ passed (confirmed LoggedOff (self .member) (now (frame .entry))) self (record { member = self .member }) ⌝ }
+        ensures accepts_the_confirmation_alone { λ r. ⌜ AcceptsIt LoggedOff (self .member) (now (frame .entry)) (isOk r) ⌝ }
     {
         match check_confirmed(frame, self.member, Kind::LoggedOff) {
             Ok(()) => {

@@ -1,6 +1,6 @@
 -- Laws of fixed-width numbers: what is written with w digits has that length, is made of digits, and reads back.
 use Prim.Native.Nat.{ℕ, zero, suc, _+_, _-_, _*_, _/_, _%_, _^_, _<_, _≤_}
-use lib.Arith.{mod-mul}
+use lib.Arith.{mod-mul, digits-div, digits-mod}
 use lib.ListN.{length, getD, take}
 use mathlib.Core.Bool.{true}
 use mathlib.Core.List.{List, [], _∷_, _++_}
@@ -69,3 +69,36 @@ valueAfter-below v (d ∷ ds) (h, a) =
     let q : (v + 1) * 10 ^ suc (length ds) ≡ (v + 1) * 10 * 10 ^ length ds =
     ap (λ (x : ℕ). (v + 1) * x) p ∙ sym (mul-assoc (v + 1) 10 (10 ^ length ds)) in
     omega arith
+
+-- digits behind others count for less by their number
+pub valueAfter-split : (v : ℕ) (ds : List ℕ) → valueAfter v ds ≡ v * 10 ^ length ds + value ds
+unfolding valueAfter
+valueAfter-split v [] = omega arith
+valueAfter-split v (d ∷ ds) =
+    let x : ℕ = d - 48 in
+    let w : ℕ = 10 ^ length ds in
+    let one : valueAfter (v * 10 + x) ds ≡ (v * 10 + x) * w + value ds = valueAfter-split (v * 10 + x) ds in
+    let two : valueAfter (0 * 10 + x) ds ≡ (0 * 10 + x) * w + value ds = valueAfter-split (0 * 10 + x) ds in
+    let a : (v * 10 + x) * w ≡ v * 10 * w + x * w = add-mul (v * 10) x w in
+    let z : 0 * 10 + x ≡ x = omega arith in
+    let b : (0 * 10 + x) * w ≡ x * w = ap (λ (n : ℕ). n * w) z in
+    let p : v * 10 ^ suc (length ds) ≡ v * 10 * w = ap (λ (n : ℕ). v * n) (pow-succ' 10 (length ds)) ∙ sym (mul-assoc v 10 w) in
+    one ∙ omega (arith, a, b, two, p)
+
+digit-back : (d : ℕ) → isDigit d ≡ true → d - 48 + 48 ≡ d
+digit-back d h = grind (arith, tells)
+
+-- a run of digits is what its value is written as, whatever stands before it
+pub digits-valueAfter : (v : ℕ) (ds : List ℕ) → All (λ b. isDigit b ≡ true) ds → digits (length ds) (valueAfter v ds) ≡ ds
+unfolding valueAfter
+digits-valueAfter v [] a = refl
+digits-valueAfter v (d ∷ ds) (h, a) =
+    let x : ℕ = d - 48 in
+    let w : ℕ = 10 ^ length ds in
+    let u : ℕ = v * 10 + x in
+    let s : valueAfter u ds ≡ u * w + value ds = valueAfter-split u ds in
+    let b : value ds < (0 + 1) * w = valueAfter-below 0 ds a in
+    let q : valueAfter u ds / w ≡ u = ap (λ (n : ℕ). n / w) s ∙ digits-div u (omega arith) in
+    let r : u % 10 ≡ x = digits-mod v (digit-small d h) in
+    let first : valueAfter u ds / w % 10 + 48 ≡ d = ap (λ (n : ℕ). n % 10 + 48) q ∙ ap (λ (n : ℕ). n + 48) r ∙ digit-back d h in
+    λ i. first i ∷ digits-valueAfter u ds a i

@@ -2,11 +2,11 @@ use Prim.Native.Nat.{ℕ, _+_, _/_, _%_}
 use mathlib.Core.List.{[], _∷_}
 use mathlib.Core.Path.{_≡_, sym, ap, _∙_}
 use Rattle.frame.proofs.Written.{ones}
-use Rattle.frame.specs.Writing.{headText}
+use Rattle.frame.specs.Headers.{headBytes}
 use Rattle.frame.proofs.write.Heading.bytes.Needs as need
 
 pub returns : need.returns
-unfolding headText
+unfolding headBytes
 returns c =
     let m-ones = c .last-digit-4 .ensures .value ∙ ones _ in
     let k = c .code-t .ensures .as-numbered in
