@@ -17,15 +17,14 @@ pub struct Options {
 
 // The options of this call, or nothing where a word is not understood.
 pub fn read_options(rt: &LibcRuntime) -> Result<Option<Options>, AnyError> {
-    let circle = Circle {
-        first: Osn(600001),
-        last: Osn(999999),
-    };
     let mut options = Options {
         help: false,
         whole: false,
         member: 7999,
-        circle,
+        circle: Circle {
+            first: Osn(600001),
+            last: Osn(999999),
+        },
         files: Vec::new(rt.alloc()),
     };
     let mut words = env::args(rt)?;
@@ -34,41 +33,58 @@ pub fn read_options(rt: &LibcRuntime) -> Result<Option<Options>, AnyError> {
         let Some(word) = words.next() else {
             break;
         };
-        match word.as_str() {
-            "--help" | "-h" => options.help = true,
-            "--whole" => options.whole = true,
-            "--member" => {
-                let Some(text) = words.next() else {
-                    return Ok(None);
-                };
-                let Some(member) = read_member(text.as_str()) else {
-                    return Ok(None);
-                };
-                options.member = member;
-            }
-            "--circle" => {
-                let Some(text) = words.next() else {
-                    return Ok(None);
-                };
-                let Some(circle) = read_circle(text.as_str()) else {
-                    return Ok(None);
-                };
-                options.circle = circle;
-            }
-            _ => {
-                if word.as_str().starts_with('-') {
-                    return Ok(None);
-                }
-                add_file(&mut options.files, word)?;
-            }
+        let understood = match word.as_str() {
+            "--help" | "-h" => set(&mut options.help),
+            "--whole" => set(&mut options.whole),
+            "--member" => set_member(&mut options.member, words.next()),
+            "--circle" => set_circle(&mut options.circle, words.next()),
+            _ => add_file(&mut options.files, word)?,
+        };
+        if !understood {
+            return Ok(None);
         }
     }
     Ok(Some(options))
 }
 
-fn add_file(files: &mut Vec<String>, word: String) -> Result<(), AllocError> {
+fn set(option: &mut bool) -> bool {
+    *option = true;
+    true
+}
+
+// A word that begins with a dash and is no option names no file.
+fn add_file(files: &mut Vec<String>, word: String) -> Result<bool, AllocError> {
+    if word.as_str().starts_with('-') {
+        return Ok(false);
+    }
     files.push(word)?;
-    Ok(())
+    Ok(true)
+}
+
+fn set_member(member: &mut u16, word: Option<String>) -> bool {
+    let Some(word) = word else {
+        return false;
+    };
+    match read_member(word.as_str()) {
+        Some(value) => {
+            *member = value;
+            true
+        }
+        None => false,
+    }
+}
+
+fn set_circle(circle: &mut Circle, word: Option<String>) -> bool {
+    let Some(word) = word else {
+        return false;
+    };
+    match read_circle(word.as_str()) {
+        Some(value) => {
+            *circle = value;
+            true
+        }
+        None => false,
+    }
 }
 
 // A member has a number of at most four digits.
