@@ -16,37 +16,47 @@ use told::tell_message;
 use told::tell_refusal;
 
 fn main(rt: LibcRuntime) -> Result<(), AnyError> {
-    rt.report(run(&rt))
+    match run(&rt) {
+        Ok(true) => Ok(()),
+        Ok(false) => Err("told already".into()),
+        Err(e) => {
+            eprintln!(rt, "inspect: {e}")?;
+            Err(e.into())
+        }
+    }
 }
 
-fn run(rt: &LibcRuntime) -> Result<(), AnyError> {
+// Whether all frames could be read; if not, standard error has been told why.
+fn run(rt: &LibcRuntime) -> io::Result<bool> {
     let Some(options) = read_options(rt)? else {
+        eprintln!(rt, "inspect: the call is not understood")?;
         usage(rt)?;
-        return Err("the call is not understood".into());
+        return Ok(false);
     };
     if options.help {
         usage(rt)?;
-        return Ok(());
+        return Ok(true);
     }
     let mut tally = Tally::new();
     if options.files.len() == 0 {
         inspect_lines(rt, &options, &mut tally, BufReader::new(rt.stdin()))?;
     }
     for name in options.files.iter() {
-        if options.whole {
-            let frame = fs::read(rt, name.as_str())?;
-            inspect_frame(rt, &options, &mut tally, &frame)?;
-        } else {
-            inspect_lines(
-                rt,
-                &options,
-                &mut tally,
-                BufReader::new(fs::open(rt, name.as_str())?),
-            )?;
+        if let Err(e) = inspect_file(rt, &options, &mut tally, name.as_str()) {
+            eprintln!(rt, "inspect: cannot read {name}: {e}")?;
+            return Ok(false);
         }
     }
     tally.tell(rt)?;
-    Ok(())
+    Ok(true)
+}
+
+fn inspect_file(rt: &LibcRuntime, options: &Options, tally: &mut Tally, name: &str) -> io::Result<()> {
+    if options.whole {
+        let frame = fs::read(rt, name)?;
+        return inspect_frame(rt, options, tally, &frame);
+    }
+    inspect_lines(rt, options, tally, BufReader::new(fs::open(rt, name)?))
 }
 
 fn usage(rt: &LibcRuntime) -> io::Result<()> {

@@ -3,7 +3,7 @@ use frame::arrival::Circle;
 use frame::kinds::Osn;
 use std::alloc::AllocError;
 use std::env;
-use std::error::AnyError;
+use std::io;
 
 #[derive(Drop)]
 pub struct Options {
@@ -16,7 +16,7 @@ pub struct Options {
 }
 
 // The options of this call, or nothing where a word is not understood.
-pub fn read_options(rt: &LibcRuntime) -> Result<Option<Options>, AnyError> {
+pub fn read_options(rt: &LibcRuntime) -> io::Result<Option<Options>> {
     let mut options = Options {
         help: false,
         whole: false,
