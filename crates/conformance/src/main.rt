@@ -16,12 +16,14 @@ use frame::texts::Verdict;
 use frame::write::Heading;
 use frame::write::write_frame;
 use notation::refusals::Layer;
+use notation::refusals::Refusal;
 use std::alloc::AllocError;
 use std::alloc::Global;
 use std::error::AnyError;
 use std::io;
 use std::io::BufRead;
 use std::io::BufReader;
+use trade::reading::read_trade;
 use words::Words;
 use words::decode_hex;
 
@@ -30,7 +32,8 @@ use words::decode_hex;
 enum Reply {
     Taken(Arrival),
     Done,
-    Refused(LineFault),
+    Written(Vec<u8>),
+    Refused(Refusal),
 }
 
 fn main(rt: LibcRuntime) -> Result<(), AnyError> {
@@ -61,9 +64,10 @@ fn answer(heap: Global, line: &[u8]) -> Result<Reply, AllocError> {
         Some(b"A") => judge_frame(heap, &mut words)?,
         Some(b"O") => open_session(heap, &mut words)?,
         Some(b"C") => close_session(heap, &mut words)?,
+        Some(b"R") => read_text(heap, &mut words)?,
         _ => None,
     };
-    Ok(reply.unwrap_or(Reply::Refused(LineFault::Unknown)))
+    Ok(reply.unwrap_or(Reply::Refused(LineFault::Unknown.refusal())))
 }
 
 // A MEMBER FIRST LAST HEX
@@ -86,7 +90,7 @@ fn judge_frame(heap: Global, words: &mut Words<'_>) -> Result<Option<Reply>, All
     };
     match judge(&bytes, member, circle) {
         Ok(arrival) => Ok(Some(Reply::Taken(arrival))),
-        Err(fault) => Ok(Some(Reply::Refused(fault))),
+        Err(fault) => Ok(Some(Reply::Refused(fault.refusal()))),
     }
 }
 
@@ -105,9 +109,9 @@ fn opened(member: u16, bytes: &[u8]) -> Reply {
     match ask(member) {
         Ok(asked) => match asked.accept(bytes) {
             Ok(_) => Reply::Done,
-            Err((_, fault)) => Reply::Refused(fault),
+            Err((_, fault)) => Reply::Refused(fault.refusal()),
         },
-        Err(fault) => Reply::Refused(fault),
+        Err(fault) => Reply::Refused(fault.refusal()),
     }
 }
 
@@ -126,9 +130,9 @@ fn closed(member: u16, bytes: &[u8]) -> Reply {
     match leaving(member) {
         Ok(leaving) => match leaving.accept(bytes) {
             Ok(_) => Reply::Done,
-            Err((_, fault)) => Reply::Refused(fault),
+            Err((_, fault)) => Reply::Refused(fault.refusal()),
         },
-        Err(fault) => Reply::Refused(fault),
+        Err(fault) => Reply::Refused(fault.refusal()),
     }
 }
 
@@ -173,6 +177,22 @@ fn leave(open: Open) -> Result<Leaving, LineFault> {
     }
 }
 
+// R HEX: the text as we would write the trade that it means
+fn read_text(heap: Global, words: &mut Words<'_>) -> Result<Option<Reply>, AllocError> {
+    let Some(bytes) = decode_hex(heap, words.last())? else {
+        return Ok(None);
+    };
+    let mut out = [0u8; 320];
+    match read_trade(&bytes) {
+        Ok(trade) => match trade.write(&mut out) {
+            Ok(n) if n <= 320 => Ok(Some(Reply::Written(Vec::from_slice(heap, &out[0..n])?))),
+            Ok(_) => Ok(None),
+            Err(fault) => Ok(Some(Reply::Refused(fault.refusal()))),
+        },
+        Err(fault) => Ok(Some(Reply::Refused(fault.refusal()))),
+    }
+}
+
 fn layer_name(layer: Layer) -> &'static str {
     match layer {
         Layer::Frame => "frame",
@@ -185,18 +205,21 @@ fn layer_name(layer: Layer) -> &'static str {
 fn tell(rt: &LibcRuntime, reply: Reply) -> io::Result<()> {
     match reply {
         Reply::Done => println!(rt, "ok"),
-        Reply::Refused(fault) => {
-            let refusal = fault.refusal();
-            println!(
-                rt,
-                "x {} {} {}",
-                refusal.number,
-                layer_name(refusal.layer),
-                refusal.offset
-            )
+        Reply::Refused(refusal) => {
+            println!(rt, "x {} {} {}", refusal.number, layer_name(refusal.layer), refusal.offset)
         }
+        Reply::Written(text) => tell_text(rt, &text),
         Reply::Taken(arrival) => tell_arrival(rt, arrival),
     }
+}
+
+// A text in hexadecimal.
+fn tell_text(rt: &LibcRuntime, text: &[u8]) -> io::Result<()> {
+    print!(rt, "ok ")?;
+    for b in text {
+        print!(rt, "{b:02x}")?;
+    }
+    println!(rt, "")
 }
 
 fn tell_arrival(rt: &LibcRuntime, arrival: Arrival) -> io::Result<()> {

@@ -1,0 +1,11 @@
+use mathlib.Core.List.{[], _∷_, _++_}
+use mathlib.Core.Path.{_≡_, sym, ap, _∙_}
+use Rattle.notation.specs.Digits.{digits}
+use Rattle.std.specs.Options.{mapped}
+use Rattle.pieces.specs.Calendar.{stamp, minuteStamp}
+use Rattle.pieces.specs.Notation.{print, number, exactly, opt}
+use Rattle.pieces.proofs.Growing.{grown-none, grown-as, grown-on}
+use Rattle.detail.proofs.writing.write_time.Needs as need
+
+pub returns-in-rest : need.returns-in-rest
+returns-in-rest c = grown-as (c .args .out .now) (c .args .out .now) [] _ (ap (λ o. print (opt (number 4)) (mapped minuteStamp o)) (sym (c .in-rest .is))) (grown-none (c .args .out .now))

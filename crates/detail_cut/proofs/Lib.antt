@@ -1,0 +1,5 @@
+pub mod Openings
+pub mod Taking
+pub mod Follows
+pub mod Single
+pub mod Whole

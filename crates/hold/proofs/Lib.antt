@@ -1,0 +1,4 @@
+pub mod Cells
+pub mod Parts
+mod Laws
+mod Turns
