@@ -1,17 +1,12 @@
 -- The laws of field 31P, from its being lawful.
-use mathlib.Core.Path.{_≡_, refl, sym, ap, subst, _∙_}
-use mathlib.Core.List.{List}
-use Prim.Native.Nat.{ℕ}
-use native.Mathlib.Omega.{arith}
-use Rattle.std.specs.declared.option.Option.the-variants.{None}
+use mathlib.Core.Path.{_≡_, refl, ap, subst}
 use Rattle.std.specs.declared.result.Result.the-variants.{Ok}
-use Rattle.pieces.specs.Rows.{Reads, Judged, textOf}
+use Rattle.pieces.specs.Rows.{Reads, textOf}
 use Rattle.pieces.proofs.Laws.{reads-sole, judged-back, written-reads, judged-sole}
 use Rattle.pieces.proofs.Bounds.{short, no-return}
 use Rattle.detail_cut.specs.Form.{detailForm}
 use Rattle.detail.specs.Detail.{row31P}
 use Rattle.detail.specs.Laws.{OneAnswer, ReadsBack, RefusedExactly, WrittenAlike, AtMost38, NoReturn}
-use Rattle.detail.specs.declared.detail.Detail.{Detail}
 use Rattle.detail.proofs.Lawfuls.{lawful-31P}
 
 pub one-answer : OneAnswer

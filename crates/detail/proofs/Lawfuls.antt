@@ -1,5 +1,5 @@
 -- The row 31P is lawful: contents have one value, a value has one meaning, and what was read can be written.
-use mathlib.Core.Path.{_≡_, refl, sym, ap, subst, _∙_}
+use mathlib.Core.Path.{_≡_, refl, sym, ap, _∙_}
 use mathlib.Core.Bool.{Bool, true, false, cond}
 use lib.Dec.{eqb}
 use mathlib.Core.List.{List}
@@ -79,6 +79,7 @@ lawful-31P = record { value = one-detail; meaning = meaning; back = back }
         let g = h .interest-as ∙ sym (k .interest-as) in
         let j = h .discount-as ∙ sym (k .discount-as) in
         λ i. record { place = a i; traded = b i; time = c i; closing = d i; settlement = e i; «new_issue» = f i; «interest_days» = g i; «discount_days» = j i }
+
     back : (v : Value detailForm) (t : Detail) → Proper detailForm v → Listed v → Real v → Unit {0} → Means v t → Judged row31P t None
     back v t h l r a m =
         let f = meant-fits v t m h in

@@ -1,13 +1,12 @@
 -- Codes that were read are listed.
-use mathlib.Core.Path.{_≡_, refl, sym, subst}
-use mathlib.Core.List.{List}
+use mathlib.Core.Path.{refl, sym, subst}
 use Prim.Native.Nat.{ℕ}
 use Rattle.std.specs.Options.{mapped}
 use Rattle.std.specs.declared.option.Option.{Option}
 use Rattle.std.specs.declared.option.Option.the-variants.{Some, None}
 use Rattle.pieces.specs.Notation.{Value}
 use Rattle.detail_cut.specs.Form.{detailForm}
-use Rattle.detail.specs.Detail.{IfThere, KindListed, Listed, settlementIn}
+use Rattle.detail.specs.Detail.{IfThere, KindListed, Listed}
 use Rattle.detail.specs.Reading.{coded, Coded}
 use Rattle.detail.specs.declared.codes.SettlementKind.{SettlementKind}
 use Rattle.detail.specs.declared.codes.Codes.{Codes}

@@ -1,12 +1,11 @@
 -- Dates and times as digits and back; optional pieces.
-use mathlib.Core.Path.{_≡_, refl, sym, ap, subst, _∙_}
-use mathlib.Core.Bool.{true}
-use Prim.Native.Nat.{ℕ, _+_, _-_, _*_, _/_, _%_, _<_, _≤_}
+use mathlib.Core.Path.{_≡_, refl, ap}
+use Prim.Native.Nat.{ℕ, _+_, _/_, _%_, _<_}
 use native.Mathlib.Omega.{arith}
 use Rattle.std.specs.Options.{mapped}
 use Rattle.std.specs.declared.option.Option.{Option}
 use Rattle.std.specs.declared.option.Option.the-variants.{Some, None}
-use Rattle.pieces.specs.Calendar.{dateOf, stamp, exists, timeOf, minuteStamp, runs}
+use Rattle.pieces.specs.Calendar.{dateOf, stamp, timeOf, minuteStamp}
 use Rattle.pieces.specs.Notation.{Notation, Value, Proper, opt}
 use Rattle.pieces.specs.declared.calendar.Date.{Date}
 use Rattle.pieces.specs.declared.calendar.Time.{Time}

@@ -1,20 +1,18 @@
 -- The details of a trade that can be written, and those that cannot.
-use mathlib.Core.Path.{_≡_, refl, sym, ap, subst, _∙_}
+use mathlib.Core.Path.{_≡_, refl, sym, subst}
 use mathlib.Core.Bool.{Bool, true, false}
 use mathlib.Core.List.{List}
-use Prim.Native.Nat.{ℕ, zero, suc, _<_, _≤_, _^_}
+use Prim.Native.Nat.{ℕ, zero, suc, _<_}
 use lib.IntN.{ℤ, pos, negsuc, natAbs}
 use native.Mathlib.Omega.{arith}
 use Rattle.notation.specs.declared.classes.Class.the-variants.{Capital}
 use Rattle.std.specs.Options.{mapped}
 use Rattle.std.specs.declared.option.Option.{Option}
 use Rattle.std.specs.declared.option.Option.the-variants.{Some, None}
-use Rattle.pieces.specs.Calendar.{dateOf, stamp, exists, timeOf, minuteStamp, runs}
+use Rattle.pieces.specs.Calendar.{dateOf, stamp, timeOf, minuteStamp}
 use Rattle.pieces.specs.Notation.{Value, Proper, number, exactly, opt}
-use Rattle.pieces.specs.Plain.{signed, negative}
+use Rattle.pieces.specs.Plain.{signed}
 use Rattle.pieces.specs.Rows.{Written}
-use Rattle.pieces.specs.declared.calendar.Date.{Date}
-use Rattle.pieces.specs.declared.calendar.Time.{Time}
 use Rattle.detail_cut.specs.Form.{slashDate, slashCodedDate, signedDays, detailForm}
 use Rattle.detail.specs.Codes.{placeNumber, kindLetters, issueMark}
 use Rattle.detail.specs.Detail.{IfThere, KindListed, DateExists, TimeExists, Listed, Real, Means, Settles, settlementPiece, daysOf, daysPiece, row31P, tradedIn, timeIn, closingIn, settlementIn, interestIn, discountIn}
@@ -119,15 +117,28 @@ module _ (t : Detail) where
 
   module _ (f : DetailFits t) where
     proper-pieces : Proper detailForm (row31P .pieces t)
-    proper-pieces =
-        ( place-small (t .place)
-        , ( there-proper slashDate (mapped stamp (t .traded)) (lift stamp DateFits (λ n. n < 1000000) stamp-small (t .traded) (f .traded-fits))
-        , ( there-proper (number 4) (mapped minuteStamp (t .time)) (lift minuteStamp TimeFits (λ n. n < 10000) minutes-small (t .time) (f .time-fits))
-        , ( there-proper (number 6) (mapped stamp (t .closing)) (lift stamp DateFits (λ n. n < 1000000) stamp-small (t .closing) (f .closing-fits))
-        , ( settled-proper (t .settlement) (f .value-date-fits)
-        , ( mark-proper (t .«new_issue»)
-        , ( there-proper signedDays (mapped daysPiece (t .«interest_days»)) (lift daysPiece (λ z. natAbs z < 1000) (Proper signedDays) (λ z h. (tt, h)) (t .«interest_days») (f .interest-fits))
-        , there-proper (number 3) (t .«discount_days») (f .discount-fits))))))))
+    proper-pieces = (
+      place-small (t .place),
+      (
+        there-proper slashDate (mapped stamp (t .traded)) (lift stamp DateFits (λ n. n < 1000000) stamp-small (t .traded) (f .traded-fits)),
+        (
+          there-proper (number 4) (mapped minuteStamp (t .time)) (lift minuteStamp TimeFits (λ n. n < 10000) minutes-small (t .time) (f .time-fits)),
+          (
+            there-proper (number 6) (mapped stamp (t .closing)) (lift stamp DateFits (λ n. n < 1000000) stamp-small (t .closing) (f .closing-fits)),
+            (
+              settled-proper (t .settlement) (f .value-date-fits),
+              (
+                mark-proper (t .«new_issue»),
+                (
+                  there-proper signedDays (mapped daysPiece (t .«interest_days»)) (lift daysPiece (λ z. natAbs z < 1000) (Proper signedDays) (λ z h. (tt, h)) (t .«interest_days») (f .interest-fits)),
+                  there-proper (number 3) (t .«discount_days») (f .discount-fits),
+                ),
+              ),
+            ),
+          ),
+        ),
+      ),
+    )
 
     means-pieces : Means (row31P .pieces t) t
     means-pieces = record {

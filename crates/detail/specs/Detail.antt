@@ -1,5 +1,5 @@
 -- What field 31P means: its codes, dates, times and days; and how it is written.
-use Prim.Native.Nat.{ℕ, _<_}
+use Prim.Native.Nat.{ℕ}
 use lib.IntN.{ℤ, natAbs}
 use mathlib.Core.Bool.{Bool, true}
 use mathlib.Core.List.{List}
@@ -106,7 +106,17 @@ row31P = record {
   real = Real;
   agree = Always;
   means = Means;
-  pieces = λ t.
-    ( placeNumber (t .place), ( mapped stamp (t .traded), ( mapped minuteStamp (t .time), ( mapped stamp (t .closing)
-    , ( mapped settlementPiece (t .settlement), ( issueMark (t .«new_issue»), ( mapped daysPiece (t .«interest_days»), t .«discount_days»)))))));
+  pieces = λ t. (
+    placeNumber (t .place),
+    (
+      mapped stamp (t .traded),
+      (
+        mapped minuteStamp (t .time),
+        (
+          mapped stamp (t .closing),
+          (mapped settlementPiece (t .settlement), (issueMark (t .«new_issue»), (mapped daysPiece (t .«interest_days»), t .«discount_days»))),
+        ),
+      ),
+    ),
+  );
 }

@@ -3,7 +3,7 @@ use Prim.Native.Nat.{ℕ}
 use lib.Chars.{codes}
 use lib.IntN.{ℤ, pos}
 use mathlib.Core.Bool.{false}
-use Rattle.notation.specs.declared.refusals.Why.the-variants.{Code, Moment}
+use Rattle.notation.specs.declared.refusals.Why.the-variants.{Notation as NotNotation, Code, Moment}
 use Rattle.std.specs.declared.option.Option.{Option}
 use Rattle.std.specs.declared.option.Option.the-variants.{Some, None}
 use Rattle.std.specs.declared.result.Result.the-variants.{Ok, Err}
@@ -17,8 +17,14 @@ use Rattle.detail.specs.declared.detail.Detail.{Detail}
 -- a trade made in Frankfurt, with no value date and in no new issue
 abbrev pub frankfurt : Option Date → Option Time → Option Date → Option ℤ → Option ℕ → Detail
 frankfurt traded time closing interest discount = record {
-  place = Frankfurt; traded = traded; time = time; closing = closing; settlement = None;
-  «new_issue» = false; «interest_days» = interest; «discount_days» = discount;
+  place = Frankfurt;
+  traded = traded;
+  time = time;
+  closing = closing;
+  settlement = None;
+  «new_issue» = false;
+  «interest_days» = interest;
+  «discount_days» = discount;
 }
 
 abbrev pub date : ℕ → ℕ → ℕ → Date
@@ -57,7 +63,11 @@ MinusZeroIsZero = Reads row31P (codes "130-000") (Ok (frankfurt None None None (
 abbrev pub MisplacedCodesRefused : Type 0
 MisplacedCodesRefused = Reads row31P (codes "130FO") (Err Code) × Reads row31P (codes "130/EM260401") (Err Code)
 
+-- no pieces have five digits together
+abbrev pub FiveDigitsRefused : Type 0
+FiveDigitsRefused = Reads row31P (codes "13012345") (Err NotNotation)
+
 abbrev pub Readings31P : Type 0
 Readings31P =
     PlaceOnly × WithTime × WithClosingDate × WithTimeAndDiscountDays × WithTradeDateAndDiscountDays
-    × LeapDayTaken × NoLeapDayRefused × MinusZeroIsZero × MisplacedCodesRefused
+    × LeapDayTaken × NoLeapDayRefused × MinusZeroIsZero × MisplacedCodesRefused × FiveDigitsRefused

@@ -1,10 +1,9 @@
 -- What can be written of the details of a trade: what has digits enough, and what exists.
-use Prim.Native.Nat.{ℕ, _<_, _≤_}
-use lib.IntN.{ℤ, natAbs}
+use Prim.Native.Nat.{_<_, _≤_}
+use lib.IntN.{natAbs}
 use mathlib.Core.Bool.{true}
 use mathlib.Core.Path.{_≡_}
 use Rattle.std.specs.Options.{mapped}
-use Rattle.std.specs.declared.option.Option.{Option}
 use Rattle.pieces.specs.Calendar.{exists, runs}
 use Rattle.pieces.specs.declared.calendar.Date.{Date}
 use Rattle.pieces.specs.declared.calendar.Time.{Time}

@@ -1,5 +1,4 @@
 // The codes of field 31P: exchanges, and how a fixed value date is settled.
-ghost use Prim.Native.Nat.{ℕ};
 ghost use lib.Chars.{codes};
 ghost use mathlib.Core.Bool.{Bool};
 ghost use mathlib.Core.Path.{_≡_};
@@ -9,7 +8,6 @@ ghost use Rattle.detail.specs.Detail.{IfThere, KindListed, Listed};
 ghost use Rattle.detail_cut.specs.Form.{seen, seenCoded, valueOf};
 ghost use Rattle.std.specs.Orderings.{Decides};
 ghost use Rattle.std.specs.Options.{Cases as BySome, mapped};
-
 use detail_cut::cut::DetailPieces;
 
 // The exchange at which a trade was made.
@@ -136,5 +134,9 @@ pub(crate) fn codes_of(pieces: &DetailPieces<'_>) -> Option<Codes>
     let place = place_of(pieces.place)?;
     let settlement = settled(pieces.settlement)?;
     let new_issue = marked(pieces.mark)?;
-    Some(Codes { place, settlement, new_issue })
+    Some(Codes {
+        place,
+        settlement,
+        new_issue,
+    })
 }

@@ -1,5 +1,5 @@
 // The details of a trade.
-ghost use Prim.Native.Nat.{ℕ, _<_};
+ghost use Prim.Native.Nat.{_<_};
 ghost use mathlib.Core.Path.{_≡_};
 ghost use Rattle.detail.specs.Detail.{row31P, IfThere, DateExists, TimeExists, settlementIn, Real, daysOf};
 ghost use Rattle.detail.specs.Reading.{coded, settlementOf, Timed};
@@ -9,7 +9,6 @@ ghost use Rattle.pieces.specs.Notation.{Proper};
 ghost use Rattle.pieces.specs.Plain.{signed};
 ghost use Rattle.pieces.specs.Rows.{Reads};
 ghost use Rattle.std.specs.Options.{Cases as BySome, mapped};
-
 use crate::codes::Codes;
 use crate::codes::Place;
 use crate::codes::SettlementKind;
@@ -79,7 +78,10 @@ fn settlement_there(piece: Option<(SettlementKind, u32)>) -> Option<Option<Settl
 {
     match piece {
         None => Some(None),
-        Some((kind, n)) => Some(Some(Settlement { kind, value_date: date_of(n)? })),
+        Some((kind, n)) => Some(Some(Settlement {
+            kind,
+            value_date: date_of(n)?,
+        })),
     }
 }
 
@@ -93,7 +95,12 @@ fn moments_of(pieces: &DetailPieces<'_>, codes: &Codes) -> Option<Moments>
     let time = time_there(pieces.time)?;
     let closing = date_there(pieces.closing)?;
     let settlement = settlement_there(codes.settlement)?;
-    Some(Moments { traded, time, closing, settlement })
+    Some(Moments {
+        traded,
+        time,
+        closing,
+        settlement,
+    })
 }
 
 fn days(minus: bool, n: u32) -> i16

@@ -1,7 +1,7 @@
 // What is wrong with the details of a trade, were they written; and how they are written.
-ghost use Prim.Native.Nat.{ℕ, _<_};
+ghost use Prim.Native.Nat.{_<_};
 ghost use lib.IntN.{natAbs};
-ghost use mathlib.Core.List.{List, [], _∷_};
+ghost use mathlib.Core.List.{[], _∷_};
 ghost use mathlib.Core.Path.{_≡_};
 ghost use Rattle.detail.specs.Codes.{issueMark};
 ghost use Rattle.detail.specs.Detail.{row31P, IfThere, settlementPiece, daysPiece};
@@ -15,7 +15,6 @@ ghost use Rattle.pieces.specs.Rows.{Checks, textOf};
 ghost use Rattle.pieces.specs.Scratches.{Grown};
 ghost use Rattle.std.specs.Options.{mapped};
 ghost use Rattle.std.specs.Orderings.{Decides};
-
 use crate::codes::letters_of;
 use crate::codes::number_of;
 use crate::detail::Detail;
@@ -92,7 +91,9 @@ fn value_date(settlement: Option<Settlement>) -> Option<Date>
 fn stamp_of(date: Date) -> u32
     ensures { λ r. ⌜ r ≡ stamp date ⌝ }
 {
-    u32::from(date.year).saturating_sub(2000) * 10_000 + u32::from(date.month) * 100 + u32::from(date.day)
+    u32::from(date.year).saturating_sub(2000) * 10_000
+        + u32::from(date.month) * 100
+        + u32::from(date.day)
 }
 
 fn minutes_of(time: Time) -> u32

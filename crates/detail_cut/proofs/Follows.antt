@@ -1,17 +1,15 @@
 -- What stands behind each piece.
-use mathlib.Core.Path.{_≡_, refl, sym, ap, subst, _∙_}
-use mathlib.Core.Bool.{Bool}
-use mathlib.Core.List.{List, [], _∷_, _++_}
+use mathlib.Core.Path.{_≡_, refl, sym, subst}
+use mathlib.Core.List.{List, [], _++_}
 use mathlib.Core.Logic.{_⊎_, inl, inr}
-use Prim.Native.Nat.{ℕ, _+_, _≤_}
+use Prim.Native.Nat.{ℕ, _+_}
 use native.Mathlib.Omega.{arith}
 use Rattle.notation.specs.Digits.{digits}
 use Rattle.notation.specs.declared.classes.Class.the-variants.{Capital}
 use Rattle.std.specs.declared.option.Option.{Option}
-use Rattle.std.specs.declared.option.Option.the-variants.{Some, None}
 use Rattle.std.proofs.shelf.Lists.{append-nil}
-use Rattle.pieces.specs.Notation.{Value, Proper, print, number, exactly, opt}
-use Rattle.detail_cut.specs.Form.{slashDate, codedDate, slashCodedDate, signedDays, fromDiscount, fromInterest, fromMark, fromSettlement, fromClosing, fromTime}
+use Rattle.pieces.specs.Notation.{Value, Proper, print, number, exactly}
+use Rattle.detail_cut.specs.Form.{slashCodedDate, signedDays, fromDiscount, fromInterest, fromMark, fromSettlement, fromClosing, fromTime}
 use Rattle.detail_cut.specs.Runs.{run, opening, OpensBy, EndRun, LateRun, RunsToEnd, RunsLate}
 use Rattle.detail_cut.proofs.Openings.{run-end, run-digits, run-none, opens-digits, opens-code, opens-days, opens-slash-code}
 use Rattle.detail_cut.proofs.Taking.{before}
@@ -71,3 +69,13 @@ runs-closing z h =
     let w = print fromSettlement (z .1) in
     let k = runs-settlement (z .1) (h .1) in
     before (number 6) RunsLate w (z .0) (h .0) (λ y p. subst LateRun (sym (run-digits 6 y w)) (late-more (run w) k)) (late-same (run w) k)
+
+-- a time in front of these
+abbrev pub TimeRun : ℕ → Type 0
+TimeRun n = LateRun n ⊎ ((m : ℕ) × LateRun m × (n ≡ 4 + m))
+
+pub runs-time : (z : Value fromTime) → Proper fromTime z → TimeRun (run (print fromTime z))
+runs-time z h =
+    let w = print fromClosing (z .1) in
+    let k = runs-closing (z .1) (h .1) in
+    before (number 4) (λ s. TimeRun (run s)) w (z .0) (h .0) (λ y p. inr (run w, k, run-digits 4 y w)) (inl k)

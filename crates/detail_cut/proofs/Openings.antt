@@ -1,22 +1,18 @@
 -- How pieces begin: the digits in front of them, and the place that their first bytes tell.
-use mathlib.Core.Path.{_≡_, refl, sym, ap, subst, _∙_}
-use mathlib.Core.Bool.{Bool, true, false, cond}
+use mathlib.Core.Path.{_≡_, refl}
+use mathlib.Core.Bool.{Bool, true, false}
 use mathlib.Core.List.{List, [], _∷_, _++_}
 use Prim.Native.Nat.{ℕ, zero, suc, _+_, _<_, _≤_, _/_, _%_, _^_}
-use lib.Chars.{codes}
-use lib.Dec.{eqb}
 use lib.ListN.{length, take, getD}
-use native.Mathlib.Nat.{mod-lt}
 use native.Mathlib.Omega.{arith}
 use Rattle.notation.specs.Classes.{isDigit, isCapital}
 use Rattle.notation.specs.Digits.{digits}
 use Rattle.notation.specs.declared.classes.Class.the-variants.{Digit, Capital}
 use Rattle.notation.proofs.Digits.{all-digits}
 use Rattle.std.specs.shelf.Lists.{All}
-use Rattle.std.proofs.shelf.Tests.{cond-true, cond-false, false≢true}
+use Rattle.std.proofs.shelf.Tests.{cond-true, cond-false}
 use Rattle.std.proofs.shelf.Ways.{tells}
-use Rattle.pieces.specs.Notation.{Of, Proper, print, number, exactly, sign, lead, both}
-use Rattle.pieces.proofs.Numbers.{capital-range}
+use Rattle.pieces.specs.Notation.{Of, Proper, print, exactly, sign}
 use Rattle.detail_cut.specs.Form.{slashDate, codedDate, slashCodedDate, signedDays}
 use Rattle.detail_cut.specs.Runs.{run, opening}
 
@@ -31,10 +27,6 @@ run-other b w h = cond-false (isDigit b) (suc (run w)) 0 h
 pub run-end : run [] ≡ 0
 unfolding run
 run-end = refl
-
-run-all : (u w : List ℕ) → All (λ b. isDigit b ≡ true) u → run (u ++ w) ≡ length u + run w
-run-all [] w a = omega arith
-run-all (b ∷ u) w a = omega (arith, run-digit b (u ++ w) (a .0), run-all u w (a .1))
 
 pub run-digits : (k n : ℕ) (w : List ℕ) → run (digits k n ++ w) ≡ k + run w
 run-digits zero n w = omega arith
@@ -69,10 +61,6 @@ opens-capital b w h = grind (arith, tells)
 pub opens-code : (v w : List ℕ) → Proper (exactly 2 Capital) v → opening (v ++ w) ≡ 3
 opens-code [] w h = absurd (omega (arith, h .0))
 opens-code (b ∷ v) w h = opens-capital b (v ++ w) (h .1 .0)
-
-run-code : (v w : List ℕ) → Proper (exactly 2 Capital) v → run (v ++ w) ≡ 0
-run-code [] w h = absurd (omega (arith, h .0))
-run-code (b ∷ v) w h = run-other b (v ++ w) (capital-other b (h .1 .0))
 
 opens-slash : (w : List ℕ) → run w ≡ 0 → opening (47 ∷ w) ≡ 4
 unfolding opening

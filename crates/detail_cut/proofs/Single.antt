@@ -1,12 +1,11 @@
 -- Each piece of field 31P begins in its own way, so contents have one value, and a piece that stands in front is taken.
 use mathlib.Core.Path.{_≡_, refl, sym, ap, subst, _∙_}
-use mathlib.Core.List.{List, [], _∷_, _++_}
-use mathlib.Core.Logic.{_⊎_, inl, inr}
+use mathlib.Core.List.{List, [], _++_}
 use Prim.Native.Nat.{ℕ, suc, _+_, _≤_}
 use lib.Chars.{codes}
 use lib.ListN.{length, take, drop, take-append-drop}
 use native.Mathlib.Omega.{arith}
-use Rattle.notation.specs.Digits.{value, digits}
+use Rattle.notation.specs.Digits.{value}
 use Rattle.notation.specs.declared.classes.Class.the-variants.{Digit, Capital}
 use Rattle.std.specs.declared.option.Option.{Option}
 use Rattle.std.specs.declared.option.Option.the-variants.{Some, None}
@@ -14,7 +13,7 @@ use Rattle.std.specs.shelf.Lists.{All}
 use Rattle.std.proofs.shelf.Elements.{all-take}
 use Rattle.std.proofs.shelf.Lists.{take-take, length-take-le, length-append}
 use Rattle.pieces.specs.Cuts.{Front, Takes}
-use Rattle.pieces.specs.Notation.{Notation, Of, Value, Proper, print, Unambiguous, number, exactly, sign, lead, both, opt}
+use Rattle.pieces.specs.Notation.{Notation, Of, Value, Proper, print, Unambiguous, number, exactly, sign, both, opt}
 use Rattle.pieces.proofs.Forms.{Sized, sized-number, sized-exactly, sized-sign, sized-lead, sized-both, sized-some, one-opt, one-after, number-found}
 use Rattle.detail_cut.specs.Form.{slashDate, codedDate, slashCodedDate, signedDays, fromDiscount, fromInterest, fromMark, fromSettlement, fromClosing, fromTime, fromTraded, detailForm, Tried}
 use Rattle.detail_cut.specs.Runs.{run, opening, OpensBy, EndRun, LateRun, RunsToEnd, RunsLate}

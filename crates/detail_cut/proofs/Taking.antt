@@ -1,14 +1,14 @@
 -- Optional pieces: when one is taken and when it is left; and how they follow one another.
 use mathlib.Core.Path.{_≡_, refl, sym, ap, subst, _∙_}
-use mathlib.Core.List.{List, [], _∷_, _++_}
-use Prim.Native.Nat.{ℕ, _<_, _≤_}
+use mathlib.Core.List.{List, [], _++_}
+use Prim.Native.Nat.{ℕ, _<_}
 use lib.ListN.{length}
 use native.Mathlib.Omega.{arith}
 use Rattle.std.specs.declared.option.Option.{Option}
 use Rattle.std.specs.declared.option.Option.the-variants.{Some, None}
-use Rattle.std.proofs.shelf.Lists.{append-assoc, append-nil, nil-from-length}
+use Rattle.std.proofs.shelf.Lists.{append-nil, nil-from-length}
 use Rattle.pieces.specs.Cuts.{Front, Takes}
-use Rattle.pieces.specs.Notation.{Notation, Value, Proper, print, Fit, Finds, Unambiguous, opt, both}
+use Rattle.pieces.specs.Notation.{Notation, Value, Proper, print, Finds, Unambiguous, opt, both}
 use Rattle.pieces.proofs.Slices.{same-front}
 use Rattle.pieces.proofs.Forms.{Sized}
 

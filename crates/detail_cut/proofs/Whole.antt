@@ -1,7 +1,7 @@
 -- The eight pieces one after another.
 use mathlib.Core.Path.{_≡_}
 use mathlib.Core.Bool.{Bool}
-use mathlib.Core.List.{List, []}
+use mathlib.Core.List.{List}
 use Prim.Native.Nat.{ℕ, _<_}
 use lib.ListN.{length}
 use Rattle.notation.specs.declared.classes.Class.the-variants.{Capital}
@@ -16,11 +16,10 @@ use Rattle.detail_cut.proofs.Taking.{then-none, then-found, last-none, last-fo
 use Rattle.detail_cut.proofs.Follows.{opens-discount, opens-interest, opens-mark, opens-time, runs-settlement, runs-closing}
 
 module _ (s t0 t1 t2 t3 t4 t5 t6 t7 : List ℕ) (p : ℕ) (d t c : Option ℕ) (a : Option (List ℕ × ℕ)) (m : Option (List ℕ)) (i : Option (Bool × ℕ)) (x : Option ℕ)
-  (f0 : Front (number 3) s (Some (p, t0)))
-  (f1 : Takes (opt slashDate) (OpensBy 4) t0 d t1) (f2 : Takes (opt (number 4)) RunsLate t1 t t2) (f3 : Takes (opt (number 6)) RunsToEnd t2 c t3)
-  (f4 : Takes (opt slashCodedDate) (OpensBy 3) t3 a t4) (f5 : Takes (opt (exactly 2 Capital)) (OpensBy 2) t4 m t5) (f6 : Takes (opt signedDays) (OpensBy 1) t5 i t6)
-  (f7 : Takes (opt (number 3)) AtEnd t6 x t7) where
-
+    (f0 : Front (number 3) s (Some (p, t0)))
+    (f1 : Takes (opt slashDate) (OpensBy 4) t0 d t1) (f2 : Takes (opt (number 4)) RunsLate t1 t t2) (f3 : Takes (opt (number 6)) RunsToEnd t2 c t3)
+    (f4 : Takes (opt slashCodedDate) (OpensBy 3) t3 a t4) (f5 : Takes (opt (exactly 2 Capital)) (OpensBy 2) t4 m t5) (f6 : Takes (opt signedDays) (OpensBy 1) t5 i t6)
+    (f7 : Takes (opt (number 3)) AtEnd t6 x t7) where
   pub detail-none : 0 < length t7 → Finds detailForm s None
   detail-none more =
       rest-second (number 3) fromTraded s 3 (sized-number 3) p t0 f0

@@ -2,7 +2,6 @@
 use Prim.Native.Nat.{ℕ}
 use denote.Ref.{RefT}
 use lib.Chars.{codes}
-use mathlib.Core.Bool.{Bool}
 use mathlib.Core.List.{List}
 use mathlib.Core.Path.{_≡_}
 use Rattle.notation.specs.declared.classes.Class.the-variants.{Capital}
@@ -13,7 +12,7 @@ use Rattle.pieces.specs.Notation.{Notation, Value, number, exactly, sign, lead,
 use Rattle.pieces.specs.Shown.{shown}
 use Rattle.detail_cut.specs.declared.cut.DetailPieces.{DetailPieces}
 
--- a date or a time that stands behind nothing, and one behind a slash
+-- a date behind a slash
 abbrev pub slashDate : Notation
 slashDate = lead (codes "/") (number 6)
 
@@ -28,7 +27,7 @@ slashCodedDate = lead (codes "/") codedDate
 abbrev pub signedDays : Notation
 signedDays = both sign (number 3)
 
--- what may follow each piece, from the last backwards
+-- each piece with all that may follow it, from the last backwards
 abbrev pub fromDiscount : Notation
 fromDiscount = opt (number 3)
 

@@ -12,13 +12,13 @@ unfoldable pub run : List ℕ → ℕ
 run [] = 0
 run (b ∷ bs) = cond (isDigit b) (suc (run bs)) 0
 
--- which piece can begin so, counted from the last: 0 none, since nothing is left; 1 digits; 2 a sign; 3 a code;
--- 4 a slash with a code; 5 a slash with a date; 6 none
+-- which piece begins so, counted from the last: 0 none, since nothing is left; 1 digits, as of the days, a closing date or a time;
+-- 2 a sign, as of interest days; 3 a letter, as of the mark; 4 a slash and no digit, as of a settlement; 5 a slash and a digit, as of the trade date; 6 none
 unfoldable pub opening : List ℕ → ℕ
 opening [] = 0
 opening (b ∷ bs) = cond (isDigit b) 1 (cond (eqb b 43 || eqb b 45) 2 (cond (isCapital b) 3 (cond (eqb b 47) (cond (eqb (run bs) 0) 4 5) 6)))
 
--- what is left begins with a piece that stands at this place or later
+-- what is left begins as a piece of this count or a lower one
 abbrev pub OpensBy : ℕ → List ℕ → Type 0
 OpensBy k s = opening s ≤ k
 

@@ -1,13 +1,11 @@
 // The eight pieces of field 31P. All but the place are optional, and runs of digits are told apart by their length alone:
 // before another piece they have 0, 4, 6 or 10 digits, and at the end 0, 3, 4, 6, 7, 9, 10 or 13.
-ghost use Prim.Native.Nat.{ℕ, min};
-ghost use mathlib.Core.Path.{_≡_};
+ghost use Prim.Native.Nat.{min};
 ghost use Rattle.detail_cut.specs.Form.{slashDate, codedDate, slashCodedDate, signedDays, detailForm, seen, seenCoded, seenCodedRest, seenPieces, Tried};
 ghost use Rattle.detail_cut.specs.Runs.{OpensBy, RunsToEnd, RunsLate, AtEnd};
 ghost use Rattle.notation.specs.declared.classes.Class.the-variants.{Capital};
-ghost use Rattle.pieces.specs.Cuts.{Front, Takes, seenBoth, seenRest};
+ghost use Rattle.pieces.specs.Cuts.{Front, Takes, seenRest};
 ghost use Rattle.pieces.specs.Notation.{Finds, number, exactly, sign, opt};
-
 use notation::classes::Class;
 use pieces::cuts::after;
 use pieces::cuts::front_number;
@@ -164,5 +162,14 @@ pub fn cut_detail(s: &[u8]) -> Option<DetailPieces<'_>>
     if rest.len() > 0 {
         return None;
     }
-    Some(DetailPieces { place, traded, time, closing, settlement, mark, interest, discount })
+    Some(DetailPieces {
+        place,
+        traded,
+        time,
+        closing,
+        settlement,
+        mark,
+        interest,
+        discount,
+    })
 }

@@ -1,10 +1,9 @@
-use mathlib.Core.List.{[], _∷_, _++_}
-use mathlib.Core.Path.{_≡_, sym, ap, _∙_}
-use Rattle.notation.specs.Digits.{digits}
+use mathlib.Core.List.{[]}
+use mathlib.Core.Path.{sym, ap}
 use Rattle.std.specs.Options.{mapped}
-use Rattle.pieces.specs.Calendar.{stamp, minuteStamp}
-use Rattle.pieces.specs.Notation.{print, number, exactly, opt}
-use Rattle.pieces.proofs.Growing.{grown-none, grown-as, grown-on}
+use Rattle.pieces.specs.Calendar.{stamp}
+use Rattle.pieces.specs.Notation.{print, number, opt}
+use Rattle.pieces.proofs.Growing.{grown-none, grown-as}
 use Rattle.detail.proofs.writing.write_closing.Needs as need
 
 pub returns-in-rest : need.returns-in-rest

@@ -1,12 +1,8 @@
-use mathlib.Core.List.{[], _∷_, _++_}
-use mathlib.Core.Path.{_≡_, sym, ap, _∙_}
-use Rattle.notation.specs.Digits.{digits}
+use mathlib.Core.List.{[]}
+use mathlib.Core.Path.{sym, ap}
 use Rattle.std.specs.Options.{mapped}
-use Rattle.pieces.specs.Calendar.{stamp, minuteStamp}
-use Rattle.pieces.specs.Notation.{print, number, exactly, opt}
-use Rattle.pieces.proofs.Growing.{grown-none, grown-as, grown-on}
-use borrow.Author.Needs.{needs}
-use Rattle.std.proofs.shelf.Signed.{toZ-ofZ}
+use Rattle.pieces.specs.Notation.{print, opt}
+use Rattle.pieces.proofs.Growing.{grown-none, grown-as}
 use Rattle.detail_cut.specs.Form.{signedDays}
 use Rattle.detail.specs.Detail.{daysPiece}
 use Rattle.detail.proofs.writing.write_interest.Needs as need

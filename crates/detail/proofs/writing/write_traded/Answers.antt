@@ -1,9 +1,9 @@
-use mathlib.Core.List.{[], _∷_, _++_}
-use mathlib.Core.Path.{_≡_, sym, ap, _∙_}
+use mathlib.Core.List.{[], _∷_}
+use mathlib.Core.Path.{sym, ap, _∙_}
 use Rattle.notation.specs.Digits.{digits}
 use Rattle.std.specs.Options.{mapped}
-use Rattle.pieces.specs.Calendar.{stamp, minuteStamp}
-use Rattle.pieces.specs.Notation.{print, number, exactly, opt}
+use Rattle.pieces.specs.Calendar.{stamp}
+use Rattle.pieces.specs.Notation.{print, opt}
 use Rattle.pieces.proofs.Growing.{grown-none, grown-as, grown-on}
 use Rattle.detail_cut.specs.Form.{slashDate}
 use Rattle.detail.proofs.writing.write_traded.Needs as need
