@@ -206,7 +206,13 @@ fn tell(rt: &LibcRuntime, reply: Reply) -> io::Result<()> {
     match reply {
         Reply::Done => println!(rt, "ok"),
         Reply::Refused(refusal) => {
-            println!(rt, "x {} {} {}", refusal.number, layer_name(refusal.layer), refusal.offset)
+            println!(
+                rt,
+                "x {} {} {}",
+                refusal.number,
+                layer_name(refusal.layer),
+                refusal.offset
+            )
         }
         Reply::Written(text) => tell_text(rt, &text),
         Reply::Taken(arrival) => tell_arrival(rt, arrival),

@@ -82,6 +82,7 @@ module _ (s : List ℕ) (a : Option (ℕ × Bool)) (z : Option ℤ) (q : z ≡ m
         by x y f Code t = ((x, Some y), f, t)
         by x y f Moment t = absurd t
         by x y f Pieces t = ((x, Some y), f, t .0, tt, t .1)
+
         go : (x : Option Signed) (y : Option (List ℕ × Signed)) → Fit chargesForm s (x, y) → SameCommission (Some (b, d, m)) y → Reads row71D s (Err w)
         go x None f n = absurd n
         go x (Some y) f n = by x y f w (subst (λ g. Told (y .0, (y .1 .0, g)) (Err w)) (n .2) (told (y .0) (y .1 .0) (n .0) (n .1)))

@@ -145,8 +145,8 @@ one-amount (Some a) None x y h i f g e =
     absurd (omega (arith, ap length (c .0), some-decimal 7 2 (a .0)))
 one-amount (Some a) (Some b) x y h i f g e =
     let c = same-cut NotSlash (print (dec 7 2) (a .0)) (print minus (a .1) ++ x) (print (dec 7 2) (b .0)) (print minus (b .1) ++ y)
-          (no-slash 7 2 (a .0) (h .0)) (minus-stops (a .1) x (follows-stops x f)) (no-slash 7 2 (b .0) (i .0)) (minus-stops (b .1) y (follows-stops y g))
-          (sym (append-assoc (print (dec 7 2) (a .0)) (print minus (a .1)) x) ∙ e ∙ append-assoc (print (dec 7 2) (b .0)) (print minus (b .1)) y) in
+    (no-slash 7 2 (a .0) (h .0)) (minus-stops (a .1) x (follows-stops x f)) (no-slash 7 2 (b .0) (i .0)) (minus-stops (b .1) y (follows-stops y g))
+    (sym (append-assoc (print (dec 7 2) (a .0)) (print minus (a .1)) x) ∙ e ∙ append-assoc (print (dec 7 2) (b .0)) (print minus (b .1)) y) in
     let d = one-decimal 7 2 (a .0) (b .0) (h .0) (i .0) (c .0) in
     let m = tails (a .1) (b .1) (c .1) in
     let z : _≡_ {A = Signed} a b = λ n. (d n, m .0 n) in

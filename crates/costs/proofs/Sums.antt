@@ -104,10 +104,15 @@ rebate-some None (Some b) s e = differ (let z : _≡_ {A = ℕ} 0 1 = cc in z)
 rebate-some (Some d) b s e = omega (arith, ap length e, length-append (print (dec 7 2) (plain 2 d)) (print (opt (lead (codes "/") bonus)) (mapped (signedPieces 3) b)), some-decimal 7 2 (plain 2 d))
 
 pub rebate-good : (t : Rebate) → (isSome (t .discount) || isSome (t .bonus)) ≡ true → WithinPlain (10 ^ 9) (t .discount) → Within (10 ^ 5) (t .bonus) → Judged row71B t None
-rebate-good t s d b =
-    ( ( ((discount-proper (t .discount) d, lead-proper (mapped (signedPieces 3) (t .bonus)) (amount-proper 2 3 (omega arith) (omega arith) (t .bonus) b)), rebate-some (t .discount) (t .bonus) s)
-      , (discount-means (t .discount) d, amount-means 2 3 (omega arith) (omega arith) (t .bonus) b))
-    , tt, tt, tt)
+rebate-good t s d b = (
+  (
+    ((discount-proper (t .discount) d, lead-proper (mapped (signedPieces 3) (t .bonus)) (amount-proper 2 3 (omega arith) (omega arith) (t .bonus) b)), rebate-some (t .discount) (t .bonus) s),
+    (discount-means (t .discount) d, amount-means 2 3 (omega arith) (omega arith) (t .bonus) b),
+  ),
+  tt,
+  tt,
+  tt,
+)
 
 pub rebate-empty-judged : (t : Rebate) → (isSome (t .discount) || isSome (t .bonus)) ≡ false → Judged row71B t (Some NotNotation)
 rebate-empty-judged t s v h m = go (v .0) (v .1) (h .1) (subst (λ d. (isSome d || isSome (t .bonus)) ≡ false) (m .0) s) (m .1)
@@ -150,11 +155,18 @@ with-ac Half z e = ((λ s. absurd (false≢true (sym (ap isSome e) ∙ s))), λ 
 
 pub brokerage-good : (t : Brokerage) → Within (10 ^ 9) (agreedOf t) → Judged row71C t None
 brokerage-good t h =
-    let m = amount-means 7 2 (omega arith) (omega arith) (agreedOf t) h in
-    ( ( ((amount-proper 7 2 (omega arith) (omega arith) (agreedOf t) h, letters-proper t)
-        , λ e. omega (arith, ap length e, length-append (print (opt amount) (mapped (signedPieces 2) (agreedOf t))) (47 ∷ letters t)))
-      , (m, refl))
-    , (t, refl), tt, with-ac t _ (sym m))
+    let m = amount-means 7 2 (omega arith) (omega arith) (agreedOf t) h in (
+      (
+        (
+          (amount-proper 7 2 (omega arith) (omega arith) (agreedOf t) h, letters-proper t),
+          λ e. omega (arith, ap length e, length-append (print (opt amount) (mapped (signedPieces 2) (agreedOf t))) (47 ∷ letters t)),
+        ),
+        (m, refl),
+      ),
+      (t, refl),
+      tt,
+      with-ac t _ (sym m),
+    )
 
 pub brokerage-large : (t : Brokerage) → (Within (10 ^ 9) (agreedOf t) → ⊥) → Judged row71C t (Some NotNotation)
 brokerage-large t n v h m = n (amount-within 7 2 (omega arith) (omega arith) (agreedOf t) (v .0) (h .0 .0) (m .0))
@@ -226,10 +238,11 @@ amount-tenth n h =
 commission-means : (c : Option Commission) → Holds c → Commissioned (mapped commissionPieces c) c
 commission-means None h = refl
 commission-means (Some (Amount z)) h =
-    let t = amount-tenth (natAbs z) h in
-    ( refl
-    , sym (ap (λ k. signed (k / 10) (negative z)) t ∙ ap (λ k. signed k (negative z)) (mul-div-cancel (natAbs z) (omega arith)) ∙ signed-back z)
-    , ap (λ k. k % 10) t ∙ mul-mod-left (natAbs z) 10)
+    let t = amount-tenth (natAbs z) h in (
+      refl,
+      sym (ap (λ k. signed (k / 10) (negative z)) t ∙ ap (λ k. signed k (negative z)) (mul-div-cancel (natAbs z) (omega arith)) ∙ signed-back z),
+      ap (λ k. k % 10) t ∙ mul-mod-left (natAbs z) 10,
+    )
 commission-means (Some (PerMille z)) h = (refl, sym (ap (λ k. signed k (negative z)) (plain-counts 3 (natAbs z) (omega arith) (omega (arith, h))) ∙ signed-back z))
 
 commission-listed : (c : Option Commission) → ListedCommission (mapped commissionPieces c)
@@ -276,9 +289,10 @@ charges-some (Some e) c s q =
 
 module _ (t : Charges) (s : (isSome (t .expenses) || isSome (t .commission)) ≡ true) (e : Within (10 ^ 9) (t .expenses)) where
   charges-written : Holds (t .commission) → Proper chargesForm (row71D .pieces t) × row71D .means (row71D .pieces t) t
-  charges-written h =
-      ( ((amount-proper 7 2 (omega arith) (omega arith) (t .expenses) e, commission-proper (t .commission) h), charges-some (t .expenses) (t .commission) s)
-      , (amount-means 7 2 (omega arith) (omega arith) (t .expenses) e, commission-means (t .commission) h))
+  charges-written h = (
+    ((amount-proper 7 2 (omega arith) (omega arith) (t .expenses) e, commission-proper (t .commission) h), charges-some (t .expenses) (t .commission) s),
+    (amount-means 7 2 (omega arith) (omega arith) (t .expenses) e, commission-means (t .commission) h),
+  )
 
   pub charges-good : Holds (t .commission) → Narrow (t .commission) → Judged row71D t None
   charges-good h n = (charges-written h, commission-listed (t .commission), tt, commission-fits (t .commission) h n)
@@ -343,13 +357,15 @@ told-unlisted c x none = λ l. listed l
     listed (inr e) = none ByRate e
 
 pub told-amount : (c : List ℕ) (w : List ℕ × List ℕ) (m : Bool) (n : ℕ) → c ≡ codes "PD" → n ≡ units 3 w → length (w .1) ≤ 2 → (z : ℤ) → z ≡ signed (n / 10) m → Told (c, (w, m)) (Ok (Amount z))
-told-amount c w m n e q l z y =
-    ( inl e
-    , ((λ p. l), λ p. let o = sym e ∙ p in differ (let k : _≡_ {A = ℕ} 68 77 = cc in absurd (omega arith)))
-    , (e, y ∙ ap (λ k. signed (k / 10) m) q, ap (λ k. k % 10) (units-wider (w .0) (w .1) l) ∙ mul-mod-left (units 2 w) 10))
+told-amount c w m n e q l z y = (
+  inl e,
+  ((λ p. l), λ p. let o = sym e ∙ p in differ (let k : _≡_ {A = ℕ} 68 77 = cc in absurd (omega arith))),
+  (e, y ∙ ap (λ k. signed (k / 10) m) q, ap (λ k. k % 10) (units-wider (w .0) (w .1) l) ∙ mul-mod-left (units 2 w) 10),
+)
 
 pub told-rate : (c : List ℕ) (w : List ℕ × List ℕ) (m : Bool) (n : ℕ) → c ≡ codes "PM" → n ≡ units 3 w → length (w .0) ≤ 2 → (z : ℤ) → z ≡ signed n m → Told (c, (w, m)) (Ok (PerMille z))
-told-rate c w m n e q l z y =
-    ( inr e
-    , ((λ p. let o = sym e ∙ p in differ (let k : _≡_ {A = ℕ} 77 68 = cc in absurd (omega arith))), λ p. l)
-    , (e, y ∙ ap (λ k. signed k m) q))
+told-rate c w m n e q l z y = (
+  inr e,
+  ((λ p. let o = sym e ∙ p in differ (let k : _≡_ {A = ℕ} 77 68 = cc in absurd (omega arith))), λ p. l),
+  (e, y ∙ ap (λ k. signed k m) q),
+)

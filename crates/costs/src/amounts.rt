@@ -10,7 +10,6 @@ ghost use Rattle.pieces.specs.Plain.{places, signed, negative};
 ghost use Rattle.pieces.specs.Scratches.{Grown};
 ghost use Rattle.std.specs.Options.{Cases as BySome, mapped};
 ghost use Rattle.std.specs.Orderings.{Decides};
-
 use pieces::cuts::after;
 use pieces::cuts::split_slash;
 use pieces::decimals::Decimal;
@@ -47,7 +46,11 @@ fn after_minus(s: &[u8]) -> Option<&[u8]>
     ensures { λ r. ⌜ BySome r ((t : List ℕ) → now (s .entry) ≡ 47 ∷ 78 ∷ t → Stops NotSlash t → ⊥) (λ t. (now (s .entry) ≡ 47 ∷ 78 ∷ now t) × Stops NotSlash (now t)) ⌝ }
 {
     let rest = after(after(s, b'/')?, b'N')?;
-    if rest.is_empty() || rest[0] == b'/' { Some(rest) } else { None }
+    if rest.is_empty() || rest[0] == b'/' {
+        Some(rest)
+    } else {
+        None
+    }
 }
 
 // Whether `/N` stands in front of a piece or the end, and what follows.
@@ -77,7 +80,11 @@ pub(crate) fn signed(size: u64, negative: bool) -> i64
     requires { ⌜ size < 2 ^ 63 ⌝ }
     ensures { λ r. ⌜ r ≡ signed size negative ⌝ }
 {
-    if negative { -(size as i64) } else { size as i64 }
+    if negative {
+        -(size as i64)
+    } else {
+        size as i64
+    }
 }
 
 // What an optional amount comes to.

@@ -6,7 +6,6 @@ ghost use Rattle.pieces.specs.Rows.{Reads, Checks, textOf};
 ghost use Rattle.pieces.specs.Scratches.{Grown};
 ghost use Rattle.std.specs.Options.{Cases as BySome};
 ghost use Rattle.std.specs.declared.option.Option.the-variants.{None};
-
 use crate::amounts::amount_of;
 use crate::amounts::take_amount;
 use crate::amounts::within;

@@ -10,7 +10,6 @@ ghost use Rattle.pieces.specs.Rows.{Reads, Checks, textOf};
 ghost use Rattle.pieces.specs.Scratches.{Grown};
 ghost use Rattle.std.specs.Options.{isSome};
 ghost use mathlib.Core.Bool.{_||_};
-
 use crate::amounts::amount_of;
 use crate::amounts::signed;
 use crate::amounts::signed_decimal;
@@ -114,10 +113,16 @@ pub fn read_charges(s: &[u8]) -> Result<Charges, Why>
     };
     let expenses = amount_of(expenses);
     let Some((basis, d, negative)) = piece else {
-        return Ok(Charges { expenses, commission: None });
+        return Ok(Charges {
+            expenses,
+            commission: None,
+        });
     };
     let commission = commission_of(basis, d, negative)?;
-    Ok(Charges { expenses, commission: Some(commission) })
+    Ok(Charges {
+        expenses,
+        commission: Some(commission),
+    })
 }
 
 fn write_commission(out: &mut Scratch, commission: Commission)
@@ -141,7 +146,11 @@ fn limits(commission: Option<Commission>) -> Result<(), Why>
 {
     match commission {
         None => Ok(()),
-        Some(Commission::Amount(z)) => if z.unsigned_abs() < 1_000_000_000 { Ok(()) } else { Err(Why::Notation) },
+        Some(Commission::Amount(z)) => if z.unsigned_abs() < 1_000_000_000 {
+            Ok(())
+        } else {
+            Err(Why::Notation)
+        },
         Some(Commission::PerMille(z)) => {
             if z.unsigned_abs() >= 10_000_000_000 {
                 return Err(Why::Notation);

@@ -10,7 +10,6 @@ ghost use Rattle.pieces.specs.Scratches.{Grown};
 ghost use Rattle.std.specs.Options.{mapped, isSome};
 ghost use mathlib.Core.Bool.{_||_};
 ghost use Rattle.std.specs.Orderings.{Decides};
-
 use crate::amounts::amount_of;
 use crate::amounts::signed_decimal;
 use crate::amounts::within;
@@ -67,7 +66,10 @@ pub fn read_rebate(s: &[u8]) -> Result<Rebate, Why>
     ensures as_the_row_has_it { λ r. ⌜ Reads row71B (now (s .entry)) r ⌝ }
 {
     match cut_rebate(s) {
-        Some((discount, bonus)) => Ok(Rebate { discount, bonus: amount_of(bonus) }),
+        Some((discount, bonus)) => Ok(Rebate {
+            discount,
+            bonus: amount_of(bonus),
+        }),
         None => Err(Why::Notation),
     }
 }

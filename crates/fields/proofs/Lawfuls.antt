@@ -46,6 +46,7 @@ lawful-23 = record { value = one-after (number 3) code 3 (sized-number 3) one-co
         let a = one-side (t .side) (u .side) (sym (h .0) ∙ k .0) in
         let b = one-mark (t .«on_exchange») (u .«on_exchange») (sym (h .1) ∙ k .1) in
         λ i. record { side = a i; «on_exchange» = b i }
+
     back : (v : ℕ × Option (List ℕ)) (t : Nature) → Proper (row23 .notation) v → row23 .listed v → Unit {0} → Unit {0} → row23 .means v t → Judged row23 t None
     back v t h l r a m =
         let e : _≡_ {A = ℕ × Option (List ℕ)} v (row23 .pieces t) = λ i. (m .0 i, m .1 i) in
@@ -58,6 +59,7 @@ nature-judged t = (((small (t .side), marked (t .«on_exchange»)), (refl, refl)
     small : (s : Side) → sideNumber s < 10 ^ 3
     small CounterpartyBuys = omega arith
     small CounterpartySells = omega arith
+
     marked : (b : Bool) → Proper code (mark b)
     marked true = (refl, (refl, (refl, tt)))
     marked false = tt
@@ -114,7 +116,7 @@ lawful-36 = record {
   value = one-decimal 5 5;
   meaning = λ v t u h k. h ∙ sym k;
   back = λ v t h l r a m.
-    let b : t < 10 ^ 10 = omega (arith, m, decimal-lt 5 5 v h) in
-    let f : t < 2 ^ 64 = omega (arith, b) in
-    ((plain-proper 5 t (omega arith) f 5 b, sym (plain-counts 5 t (omega arith) f)), tt, tt, tt);
+      let b : t < 10 ^ 10 = omega (arith, m, decimal-lt 5 5 v h) in
+      let f : t < 2 ^ 64 = omega (arith, b) in
+      ((plain-proper 5 t (omega arith) f 5 b, sym (plain-counts 5 t (omega arith) f)), tt, tt, tt);
 }

@@ -5,7 +5,6 @@ ghost use Rattle.fields.specs.Table.{code};
 ghost use Rattle.notation.specs.declared.classes.Class.the-variants.{Capital};
 ghost use Rattle.pieces.specs.Notation.{Finds, exactly};
 ghost use Rattle.pieces.specs.Plain.{places};
-
 use notation::classes::Class;
 use pieces::cuts::after;
 use pieces::cuts::all_of;

@@ -5,7 +5,6 @@ ghost use Rattle.fields.specs.Terms.{row35B, row82D, row72, seenOk};
 ghost use Rattle.pieces.specs.Notation.{Finds};
 ghost use Rattle.pieces.specs.Rows.{Reads, Checks, textOf};
 ghost use Rattle.pieces.specs.Scratches.{Grown};
-
 use notation::classes::Class;
 use notation::refusals::Why;
 use pieces::cuts::after;
@@ -82,7 +81,10 @@ pub fn read_parties(s: &[u8]) -> Result<Parties, Why>
     ensures as_the_row_has_it { λ r. ⌜ Reads row82D (now (s .entry)) r ⌝ }
 {
     match cut_parties(s) {
-        Some((entering, counterparty)) => Ok(Parties { entering: entering as u16, counterparty: counterparty as u16 }),
+        Some((entering, counterparty)) => Ok(Parties {
+            entering: entering as u16,
+            counterparty: counterparty as u16,
+        }),
         None => Err(Why::Notation),
     }
 }

@@ -8,7 +8,6 @@ ghost use Rattle.pieces.specs.Notation.{Finds};
 ghost use Rattle.pieces.specs.Rows.{Reads, Checks, textOf};
 ghost use Rattle.pieces.specs.Scratches.{Grown};
 ghost use Rattle.std.specs.Options.{Cases as BySome};
-
 use crate::codes::coded_decimal;
 use crate::codes::optional_code;
 use notation::classes::Class;
@@ -85,7 +84,11 @@ fn mark_of(code: Option<[u8; 2]>) -> Option<bool>
 {
     match code {
         None => Some(false),
-        Some(c) => if c[0] == b'B' && c[1] == b'S' { Some(true) } else { None },
+        Some(c) => if c[0] == b'B' && c[1] == b'S' {
+            Some(true)
+        } else {
+            None
+        },
     }
 }
 
@@ -205,7 +208,8 @@ pub fn read_rate(s: &[u8]) -> Result<u64, Why>
 pub fn check_rate(rate: u64) -> Result<(), Why>
     ensures as_its_contents_would { λ r. ⌜ Checks row36 rate r ⌝ }
 {
-    if rate >= 10_000_000_000 {
+    let limit: u64 = 10_000_000_000;
+    if rate >= limit {
         return Err(Why::Notation);
     }
     Ok(())

@@ -51,7 +51,12 @@ fn run(rt: &LibcRuntime) -> io::Result<bool> {
     Ok(true)
 }
 
-fn inspect_file(rt: &LibcRuntime, options: &Options, tally: &mut Tally, name: &str) -> io::Result<()> {
+fn inspect_file(
+    rt: &LibcRuntime,
+    options: &Options,
+    tally: &mut Tally,
+    name: &str,
+) -> io::Result<()> {
     if options.whole {
         let frame = fs::read(rt, name)?;
         return inspect_frame(rt, options, tally, &frame);

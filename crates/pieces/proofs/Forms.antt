@@ -37,6 +37,7 @@ sized-sign = record { size = size; one = one }
     size : (v : Bool) → Unit {0} → length (print sign v) ≡ 1
     size true h = refl
     size false h = refl
+
     one : (v w : Bool) → Unit {0} → Unit {0} → print sign v ≡ print sign w → v ≡ w
     one true true h i e = refl
     one true false h i e = absurd (let z : _≡_ {A = ℕ} 45 43 = cc in omega arith)
@@ -53,10 +54,10 @@ pub sized-both : (f g : Notation) (m n : ℕ) → Sized f m → Sized g n → Si
 sized-both f g m n y z = record {
   size = λ v h. length-append (print f (v .0)) (print g (v .1)) ∙ ap (λ k. k + length (print g (v .1))) (y .size (v .0) (h .0)) ∙ ap (λ k. m + k) (z .size (v .1) (h .1));
   one = λ v w h i e.
-    let s = same-front (print f (v .0)) (print g (v .1)) (print f (w .0)) (print g (w .1)) e (y .size (v .0) (h .0) ∙ sym (y .size (w .0) (i .0))) in
-    let p = y .one (v .0) (w .0) (h .0) (i .0) (s .0) in
-    let q = z .one (v .1) (w .1) (h .1) (i .1) (s .1) in
-    λ n. (p n, q n);
+      let s = same-front (print f (v .0)) (print g (v .1)) (print f (w .0)) (print g (w .1)) e (y .size (v .0) (h .0) ∙ sym (y .size (w .0) (i .0))) in
+      let p = y .one (v .0) (w .0) (h .0) (i .0) (s .0) in
+      let q = z .one (v .1) (w .1) (h .1) (i .1) (s .1) in
+      λ n. (p n, q n);
 }
 
 -- contents with a front of a fixed length have one value if the rest has

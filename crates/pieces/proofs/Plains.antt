@@ -48,9 +48,9 @@ one-digit j r small z =
       some = omega arith;
       few = omega arith;
       counts =
-        let e : suc j - 1 ≡ j = omega arith in
-        let n : value ((48 + r / 10 ^ j) ∷ []) ≡ r / 10 ^ j = one-value (48 + r / 10 ^ j) ∙ omega arith in
-        ap (λ i. value ((48 + r / 10 ^ j) ∷ []) * 10 ^ i) e ∙ ap (λ d. d * 10 ^ j) n ∙ omega (arith, div-add-mod' r (10 ^ j), z);
+          let e : suc j - 1 ≡ j = omega arith in
+          let n : value ((48 + r / 10 ^ j) ∷ []) ≡ r / 10 ^ j = one-value (48 + r / 10 ^ j) ∙ omega arith in
+          ap (λ i. value ((48 + r / 10 ^ j) ∷ []) * 10 ^ i) e ∙ ap (λ d. d * 10 ^ j) n ∙ omega (arith, div-add-mod' r (10 ^ j), z);
     }
 
 more-digits : (j r : ℕ) (g : List ℕ) → r / 10 ^ j < 10 → Fraction j (r % 10 ^ j) g → Fraction (suc j) r ((48 + r / 10 ^ j) ∷ g)
@@ -60,13 +60,13 @@ more-digits j r g small h =
       some = omega arith;
       few = omega (arith, h .few);
       counts =
-        let l = length g in
-        let a = r / 10 ^ j in
-        let e : suc j - suc l ≡ j - l = omega arith in
-        let d : 48 + a - 48 ≡ a = omega arith in
-        let n : value ((48 + a) ∷ g) ≡ a * 10 ^ l + value g = value-cons (48 + a) g ∙ ap (λ x. x * 10 ^ l + value g) d in
-        let p : 10 ^ l * 10 ^ (j - l) ≡ 10 ^ j = let s : l + (j - l) ≡ j = omega (arith, h .few) in sym (pow-add 10 l (j - l)) ∙ ap (λ i. 10 ^ i) s in
-        ap (λ i. value ((48 + a) ∷ g) * 10 ^ i) e ∙ ap (λ x. x * 10 ^ (j - l)) n ∙ add-mul (a * 10 ^ l) (value g) (10 ^ (j - l)) ∙ ap (λ x. x + value g * 10 ^ (j - l)) (mul-assoc a (10 ^ l) (10 ^ (j - l)) ∙ ap (λ x. a * x) p) ∙ ap (λ x. a * 10 ^ j + x) (h .counts) ∙ div-add-mod' r (10 ^ j);
+          let l = length g in
+          let a = r / 10 ^ j in
+          let e : suc j - suc l ≡ j - l = omega arith in
+          let d : 48 + a - 48 ≡ a = omega arith in
+          let n : value ((48 + a) ∷ g) ≡ a * 10 ^ l + value g = value-cons (48 + a) g ∙ ap (λ x. x * 10 ^ l + value g) d in
+          let p : 10 ^ l * 10 ^ (j - l) ≡ 10 ^ j = let s : l + (j - l) ≡ j = omega (arith, h .few) in sym (pow-add 10 l (j - l)) ∙ ap (λ i. 10 ^ i) s in
+          ap (λ i. value ((48 + a) ∷ g) * 10 ^ i) e ∙ ap (λ x. x * 10 ^ (j - l)) n ∙ add-mul (a * 10 ^ l) (value g) (10 ^ (j - l)) ∙ ap (λ x. x + value g * 10 ^ (j - l)) (mul-assoc a (10 ^ l) (10 ^ (j - l)) ∙ ap (λ x. a * x) p) ∙ ap (λ x. a * 10 ^ j + x) (h .counts) ∙ div-add-mod' r (10 ^ j);
     }
 
 some-place : (k n : ℕ) → n < 10 ^ k → (n ≡ 0 → ⊥) → 0 < k
@@ -79,8 +79,10 @@ fraction-fits (suc j) r some small = go (λ pos. fraction-fits j (r % 10 ^ j) po
   where
     digit : r / 10 ^ j < 10
     digit = div-lt-iff-lt-mul (ten-pos j) .1 (omega (arith, pow-suc 10 j, mul-comm 10 (10 ^ j)))
+
     rest : r % 10 ^ j < 10 ^ j
     rest = mod-lt r (ten-pos j)
+
     go : (0 < j → Fraction j (r % 10 ^ j) (fractionText j (r % 10 ^ j))) → (t : Bool) → eqb (r % 10 ^ j) 0 ≡ t → Fraction (suc j) r ((48 + r / 10 ^ j) ∷ cond t [] (fractionText j (r % 10 ^ j)))
     go ih true e = one-digit j r digit (eqb-true (r % 10 ^ j) 0 e)
     go ih false e = more-digits j r _ digit (ih (some-place j (r % 10 ^ j) rest (eqb-false (r % 10 ^ j) 0 e)))
@@ -152,8 +154,10 @@ fraction-plain (suc j) (d ∷ []) a some few n = text-step j (d - 48) 0 _ (ten-p
   where
     one : suc j - 1 ≡ j
     one = omega arith
+
     counts : value (d ∷ []) * 10 ^ (suc j - 1) ≡ (d - 48) * 10 ^ j + 0
     counts = ap (λ i. value (d ∷ []) * 10 ^ i) one ∙ ap (λ x. x * 10 ^ j) (one-value d) ∙ omega arith
+
     back : 48 + (d - 48) ≡ d
     back = omega (arith, digit-range d (a .0))
 fraction-plain (suc j) (d ∷ e ∷ f) a some few n =
@@ -163,12 +167,16 @@ fraction-plain (suc j) (d ∷ e ∷ f) a some few n =
   where
     fits : length (e ∷ f) ≤ j
     fits = omega arith
+
     small : value (e ∷ f) * 10 ^ (j - length (e ∷ f)) < 10 ^ j
     small = fraction-lt [] (e ∷ f) j tt (a .1) fits
+
     back : 48 + (d - 48) ≡ d
     back = omega (arith, digit-range d (a .0))
+
     positive : value (e ∷ f) * 10 ^ (j - length (e ∷ f)) ≡ 0 → ⊥
     positive z = omega (arith, z, mul-le-mul {n₁ = 1} {m₁ = 1} (some-value e f (a .1 .0) (a .1 .1) n) (ten-pos (j - length (e ∷ f))))
+
     counts : value (d ∷ e ∷ f) * 10 ^ (suc j - length (d ∷ e ∷ f)) ≡ (d - 48) * 10 ^ j + value (e ∷ f) * 10 ^ (j - length (e ∷ f))
     counts =
         let l : suc j - suc (length (e ∷ f)) ≡ j - length (e ∷ f) = omega arith in
@@ -176,6 +184,7 @@ fraction-plain (suc j) (d ∷ e ∷ f) a some few n =
         ap (λ i. value (d ∷ e ∷ f) * 10 ^ i) l ∙ ap (λ x. x * 10 ^ (j - length (e ∷ f))) (value-cons d (e ∷ f))
         ∙ add-mul ((d - 48) * 10 ^ length (e ∷ f)) (value (e ∷ f)) (10 ^ (j - length (e ∷ f)))
         ∙ ap (λ x. x + value (e ∷ f) * 10 ^ (j - length (e ∷ f))) (mul-assoc (d - 48) (10 ^ length (e ∷ f)) (10 ^ (j - length (e ∷ f))) ∙ ap (λ x. (d - 48) * x) (sym (pow-add 10 (length (e ∷ f)) (j - length (e ∷ f))) ∙ ap (λ i. 10 ^ i) s))
+
     keep : (r : List ℕ) → (lastOf e r ≡ 48 → ⊥) → NoTrail (e ∷ r)
     keep [] m = tt
     keep (b ∷ r) m = m
@@ -186,6 +195,7 @@ whole-plain (d ∷ w) a n l = cond-false _ [] _ (ne-eqb (value (d ∷ w)) 0 posi
   where
     same : decimal (value (d ∷ w)) ≡ d ∷ w
     same = decimal-value own (d ∷ w) a (omega arith) (λ z. absurd (n z)) l
+
     positive : value (d ∷ w) ≡ 0 → ⊥
     positive z = n (ap (λ l. getD l 0 0) (sym same ∙ ap decimal z ∙ decimal-digit 0 (omega arith)))
 
@@ -207,6 +217,7 @@ no-lead n fits = go (eqb n 0) refl
     first : (l : List ℕ) → 48 < getD l 0 0 → NoLead l
     first [] h = tt
     first (b ∷ l) h = λ e. omega (arith, e, h)
+
     go : (t : Bool) → eqb n 0 ≡ t → NoLead (cond t [] (decimal n))
     go true e = tt
     go false e = let ne = eqb-false n 0 e in first (decimal n) (first-decimal n (omega arith) fits)
@@ -217,6 +228,7 @@ last-digit (suc j) r d small ne z = go (last-digit j (r % 10 ^ j) (48 + r / 10 ^
   where
     zero-times : (a b : ℕ) → a ≡ 0 → a * b ≡ 0
     zero-times a b e = ap (λ x. x * b) e ∙ zero-mul b
+
     go : ((r % 10 ^ j ≡ 0 → ⊥) → lastOf (48 + r / 10 ^ j) (fractionText j (r % 10 ^ j)) ≡ 48 → ⊥) → (t : Bool) → eqb (r % 10 ^ j) 0 ≡ t → lastOf (48 + r / 10 ^ j) (cond t [] (fractionText j (r % 10 ^ j))) ≡ 48 → ⊥
     go ih true e l = ne (omega (arith, div-add-mod' r (10 ^ j), eqb-true (r % 10 ^ j) 0 e, zero-times (r / 10 ^ j) (10 ^ j) (omega (arith, l))))
     go ih false e l = ih (eqb-false (r % 10 ^ j) 0 e) l
@@ -228,14 +240,16 @@ no-trail (suc j) r small = go (eqb (r % 10 ^ j) 0) refl
     split : (d : ℕ) (l : List ℕ) → (lastOf d l ≡ 48 → ⊥) → NoTrail (d ∷ l)
     split d [] h = tt
     split d (e ∷ l) h = h
+
     go : (t : Bool) → eqb (r % 10 ^ j) 0 ≡ t → NoTrail ((48 + r / 10 ^ j) ∷ cond t [] (fractionText j (r % 10 ^ j)))
     go true e = tt
     go false e = split (48 + r / 10 ^ j) (fractionText j (r % 10 ^ j)) (last-digit j (r % 10 ^ j) (48 + r / 10 ^ j) (mod-lt r (ten-pos j)) (eqb-false (r % 10 ^ j) 0 e))
 
 pub one-plain-text : OnePlainText
-one-plain-text p q n some small fits =
-    ( record { proper = plain-proper q n some fits p small; counts = plain-counts q n some fits; lead = no-lead (n / 10 ^ q) (omega (arith, div-le-self n (10 ^ q))); trail = no-trail q (n % 10 ^ q) (mod-lt n (ten-pos q)) }
-    , plain-same p q n fits)
+one-plain-text p q n some small fits = (
+  record { proper = plain-proper q n some fits p small; counts = plain-counts q n some fits; lead = no-lead (n / 10 ^ q) (omega (arith, div-le-self n (10 ^ q))); trail = no-trail q (n % 10 ^ q) (mod-lt n (ten-pos q)) },
+  plain-same p q n fits,
+)
 
 pub zero-text : ZeroText
 zero-text = (zero-plain, refl)
@@ -245,7 +259,7 @@ zero-text = (zero-plain, refl)
         let w : wholeText (0 / 10 ^ suc q) ≡ [] = ap wholeText (zero-div (10 ^ suc q)) in
         let m : 0 % 10 ^ suc q ≡ 0 = zero-mod (10 ^ suc q) in
         let f : fractionText (suc q) (0 % 10 ^ suc q) ≡ 48 ∷ [] =
-            ap (fractionText (suc q)) m
-            ∙ ap (λ d. (48 + d) ∷ cond (eqb (0 % 10 ^ q) 0) [] (fractionText q (0 % 10 ^ q))) (zero-div (10 ^ q))
-            ∙ ap (λ d. 48 ∷ cond (eqb d 0) [] (fractionText q d)) (zero-mod (10 ^ q)) in
+        ap (fractionText (suc q)) m
+        ∙ ap (λ d. (48 + d) ∷ cond (eqb (0 % 10 ^ q) 0) [] (fractionText q (0 % 10 ^ q))) (zero-div (10 ^ q))
+        ∙ ap (λ d. 48 ∷ cond (eqb d 0) [] (fractionText q d)) (zero-mod (10 ^ q)) in
         λ i. (w i, f i)

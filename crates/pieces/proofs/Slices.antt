@@ -12,9 +12,10 @@ use Rattle.std.proofs.shelf.Lists.{take-at, drop-at}
 use Rattle.pieces.specs.Cuts.{Stops, Cut}
 
 pub same-front : (u w x t : List ℕ) → u ++ w ≡ x ++ t → length u ≡ length x → (u ≡ x) × (w ≡ t)
-same-front u w x t e l =
-    ( sym (take-at u w (length u) refl) ∙ ap (take (length u)) e ∙ take-at x t (length u) (sym l)
-    , sym (drop-at u w (length u) refl) ∙ ap (drop (length u)) e ∙ drop-at x t (length u) (sym l))
+same-front u w x t e l = (
+  sym (take-at u w (length u) refl) ∙ ap (take (length u)) e ∙ take-at x t (length u) (sym l),
+  sym (drop-at u w (length u) refl) ∙ ap (drop (length u)) e ∙ drop-at x t (length u) (sym l),
+)
 
 pub same-cut : (P : ℕ → Type 0) (u w u′ w′ : List ℕ) → All P u → Stops P w → All P u′ → Stops P w′ → u ++ w ≡ u′ ++ w′ → (u ≡ u′) × (w ≡ w′)
 same-cut P [] w [] w′ a s a′ s′ e = (refl, e)

@@ -19,16 +19,16 @@ Of c b = isOf c b ≡ true
 
 -- the notation, whole
 pub data Notation : Type 0 where
-  number : ℕ → Notation                   -- 4n: so many digits, read as a number
-  exactly : ℕ → Class → Notation          -- 3a, 12c: so many bytes of a class
-  upTo : ℕ → Class → Notation             -- 30x: from 1 to so many bytes of a class
-  dec : ℕ → ℕ → Notation                  -- 9n,3n: 0 to 9 digits, a comma, 1 to 3 digits
-  sign : Notation                         -- 1x that is a plus or a minus
-  flag : List ℕ → Notation                -- [/N]: these bytes, or nothing
-  lead : List ℕ → Notation → Notation     -- these bytes, and then a notation: /2a
-  opt : Notation → Notation               -- [ .. ]: a piece that may be left out
-  both : Notation → Notation → Notation   -- one after the other
-  stands : Notation → Notation            -- not empty: at least one of the pieces stands
+  number : ℕ → Notation  -- 4n: so many digits, read as a number
+  exactly : ℕ → Class → Notation  -- 3a, 12c: so many bytes of a class
+  upTo : ℕ → Class → Notation  -- 30x: from 1 to so many bytes of a class
+  dec : ℕ → ℕ → Notation  -- 9n,3n: 0 to 9 digits, a comma, 1 to 3 digits
+  sign : Notation  -- 1x that is a plus or a minus
+  flag : List ℕ → Notation  -- [/N]: these bytes, or nothing
+  lead : List ℕ → Notation → Notation  -- these bytes, and then a notation: /2a
+  opt : Notation → Notation  -- [ .. ]: a piece that may be left out
+  both : Notation → Notation → Notation  -- one after the other
+  stands : Notation → Notation  -- not empty: at least one of the pieces stands
 
 -- what contents say, piece by piece; of a decimal its digits before the comma and after it, of a sign or a flag whether it is a minus
 abbrev pub Value : Notation → Type 0

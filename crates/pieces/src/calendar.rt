@@ -41,7 +41,10 @@ impl Date {
     pub fn exists(&self) -> bool
         ensures by_the_calendar { λ r. ⌜ r ≡ exists (now (self .entry)) ⌝ }
     {
-        self.month >= 1 && self.month <= 12 && self.day >= 1 && self.day <= days_in(self.year, self.month)
+        self.month >= 1
+            && self.month <= 12
+            && self.day >= 1
+            && self.day <= days_in(self.year, self.month)
     }
 }
 
@@ -61,7 +64,11 @@ pub fn date_of(n: u32) -> Option<Date>
     if n >= 1_000_000 {
         return None;
     }
-    let date = Date { year: 2000 + (n / 10_000) as u16, month: (n / 100 % 100) as u8, day: (n % 100) as u8 };
+    let date = Date {
+        year: 2000 + (n / 10_000) as u16,
+        month: (n / 100 % 100) as u8,
+        day: (n % 100) as u8,
+    };
     if date.exists() { Some(date) } else { None }
 }
 
@@ -72,6 +79,9 @@ pub fn time_of(n: u32) -> Option<Time>
     if n >= 10_000 {
         return None;
     }
-    let time = Time { hour: (n / 100) as u8, minute: (n % 100) as u8 };
+    let time = Time {
+        hour: (n / 100) as u8,
+        minute: (n % 100) as u8,
+    };
     if time.exists() { Some(time) } else { None }
 }

@@ -10,7 +10,6 @@ ghost use Rattle.pieces.specs.Notation.{Of, Finds, exactly, number};
 ghost use Rattle.std.specs.Options.{Cases as BySome};
 ghost use Rattle.std.specs.Orderings.{Decides};
 ghost use Rattle.std.specs.shelf.Lists.{All};
-
 use notation::classes::Class;
 
 // Whether each byte is of the class.

@@ -8,7 +8,6 @@ ghost use Rattle.pieces.specs.Notation.{Of, units};
 ghost use Rattle.pieces.specs.Plain.{places, Parted, Counted, OnePlainText, ZeroText};
 ghost use Rattle.std.specs.Options.{Cases as BySome};
 ghost use Rattle.std.specs.shelf.Lists.{All};
-
 use crate::cuts::after;
 use crate::cuts::number_of;
 use crate::cuts::split_digits;
@@ -90,7 +89,11 @@ pub fn read_decimal(s: &[u8], whole: usize, scale: Scale) -> Option<Decimal>
     if fraction.len() == 0 || fraction.len() > scale.places() {
         return None;
     }
-    Some(Decimal { units: in_units(front, fraction, scale), whole: front.len(), fraction: fraction.len() })
+    Some(Decimal {
+        units: in_units(front, fraction, scale),
+        whole: front.len(),
+        fraction: fraction.len(),
+    })
 }
 
 pub fn a_decimal_has_one_plain_text() -> u8

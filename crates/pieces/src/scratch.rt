@@ -7,7 +7,6 @@ ghost use Rattle.pieces.specs.Notation.{print, dec};
 ghost use Rattle.pieces.specs.Plain.{places, wholeText, fractionText, plain};
 ghost use Rattle.pieces.specs.Scratches.{held, Grown, Copied};
 ghost use Rattle.std.specs.Written.{decimal};
-
 use crate::decimals::Scale;
 
 // Bytes written so far. The longest text of a trade has 276 bytes; what is written past the room is let go.
@@ -21,7 +20,10 @@ impl Scratch {
     pub fn new() -> Scratch
         ensures empty { λ r. ⌜ held r ≡ [] ⌝ }
     {
-        Scratch { bytes: [0; 320], len: 0 }
+        Scratch {
+            bytes: [0; 320],
+            len: 0,
+        }
     }
 
     // Writes one byte.

@@ -38,8 +38,14 @@ pub enum Slip {
 impl Slip {
     pub fn tell(&self, rt: &LibcRuntime) -> io::Result<()> {
         match self {
-            Slip::Name(line) => eprintln!(rt, "ticket: word {line} is no name=value with a name that is known"),
-            Slip::Value(line) => eprintln!(rt, "ticket: the value of word {line} is not understood"),
+            Slip::Name(line) => eprintln!(
+                rt,
+                "ticket: word {line} is no name=value with a name that is known"
+            ),
+            Slip::Value(line) => eprintln!(
+                rt,
+                "ticket: the value of word {line} is not understood"
+            ),
             Slip::Missing(name) => eprintln!(rt, "ticket: {name} is needed"),
         }
     }

@@ -30,13 +30,34 @@ fn main(rt: LibcRuntime) -> Result<(), AnyError> {
 
 fn usage(rt: &LibcRuntime) -> io::Result<()> {
     eprintln!(rt, "usage: ticket [FILE ...] [--make WORDS]")?;
-    eprintln!(rt, "Each file is one MT 511 text, told in plain words; with no file and no --make, standard input is.")?;
-    eprintln!(rt, "--make makes a text: WORDS are name=value, or names of files with such words, one a line.")?;
-    eprintln!(rt, "Names that must be given: counterparty (buys or sells), place, kind, nominal, isin, currency, price, member, with.")?;
-    eprintln!(rt, "Others: on_exchange, traded, time, closing, settlement (FO, FV or FZ), value_date, new_issue,")?;
-    eprintln!(rt, "interest_days, discount_days, discount, bonus, brokerage (an amount, free, free_of_all or half),")?;
-    eprintln!(rt, "expenses, commission, commission_per_mille, note, rate.")?;
-    eprintln!(rt, "Dates are 2026-04-01, times 09:15, numbers 12.5; yes switches on_exchange and new_issue on.")
+    eprintln!(
+        rt,
+        "Each file is one MT 511 text, told in plain words; with no file and no --make, standard input is."
+    )?;
+    eprintln!(
+        rt,
+        "--make makes a text: WORDS are name=value, or names of files with such words, one a line."
+    )?;
+    eprintln!(
+        rt,
+        "Names that must be given: counterparty (buys or sells), place, kind, nominal, isin, currency, price, member, with."
+    )?;
+    eprintln!(
+        rt,
+        "Others: on_exchange, traded, time, closing, settlement (FO, FV or FZ), value_date, new_issue,"
+    )?;
+    eprintln!(
+        rt,
+        "interest_days, discount_days, discount, bonus, brokerage (an amount, free, free_of_all or half),"
+    )?;
+    eprintln!(
+        rt,
+        "expenses, commission, commission_per_mille, note, rate."
+    )?;
+    eprintln!(
+        rt,
+        "Dates are 2026-04-01, times 09:15, numbers 12.5; yes switches on_exchange and new_issue on."
+    )
 }
 
 // Whether all went well; if not, standard error has been told why.

@@ -27,7 +27,13 @@ fn layer_name(layer: Layer) -> &'static str {
 
 fn tell(rt: &LibcRuntime, refusal: Refusal) -> io::Result<()> {
     let number = refusal.number;
-    println!(rt, "refused: {number} ({}), layer {}, byte {}", meaning(number), layer_name(refusal.layer), refusal.offset)
+    println!(
+        rt,
+        "refused: {number} ({}), layer {}, byte {}",
+        meaning(number),
+        layer_name(refusal.layer),
+        refusal.offset
+    )
 }
 
 // A trade that no text means.

@@ -54,10 +54,20 @@ fn tell_parties(rt: &LibcRuntime, trade: &Trade<'_>) -> io::Result<()> {
     let ours = trade.parties.entering;
     let theirs = trade.parties.counterparty;
     match trade.nature.side {
-        Side::CounterpartyBuys => println!(rt, "seller        member {ours:04}, who enters the trade\nbuyer         member {theirs:04}")?,
-        Side::CounterpartySells => println!(rt, "seller        member {theirs:04}\nbuyer         member {ours:04}, who enters the trade")?,
+        Side::CounterpartyBuys => println!(
+            rt,
+            "seller        member {ours:04}, who enters the trade\nbuyer         member {theirs:04}"
+        )?,
+        Side::CounterpartySells => println!(
+            rt,
+            "seller        member {theirs:04}\nbuyer         member {ours:04}, who enters the trade"
+        )?,
     }
-    let made = if trade.nature.on_exchange { "on exchange" } else { "over the counter" };
+    let made = if trade.nature.on_exchange {
+        "on exchange"
+    } else {
+        "over the counter"
+    };
     println!(rt, "made          {made}")
 }
 
@@ -119,12 +129,24 @@ fn sign_of(amount: i64) -> &'static str {
 
 fn hundredths(rt: &LibcRuntime, name: &str, amount: i64) -> io::Result<()> {
     let size = amount.unsigned_abs();
-    println!(rt, "{name}{}{}.{:02}", sign_of(amount), size / 100, size % 100)
+    println!(
+        rt,
+        "{name}{}{}.{:02}",
+        sign_of(amount),
+        size / 100,
+        size % 100
+    )
 }
 
 fn thousandths(rt: &LibcRuntime, name: &str, amount: i64, unit: &str) -> io::Result<()> {
     let size = amount.unsigned_abs();
-    println!(rt, "{name}{}{}.{:03}{unit}", sign_of(amount), size / 1000, size % 1000)
+    println!(
+        rt,
+        "{name}{}{}.{:03}{unit}",
+        sign_of(amount),
+        size / 1000,
+        size % 1000
+    )
 }
 
 fn tell_rebate(rt: &LibcRuntime, rebate: &Rebate) -> io::Result<()> {
@@ -141,7 +163,10 @@ fn tell_brokerage(rt: &LibcRuntime, brokerage: Brokerage) -> io::Result<()> {
     match brokerage {
         Brokerage::Agreed(amount) => hundredths(rt, "brokerage     agreed, ", amount),
         Brokerage::Free => println!(rt, "brokerage     none (FC)"),
-        Brokerage::FreeOfAll => println!(rt, "brokerage     none, and no expenses and no commission (FR)"),
+        Brokerage::FreeOfAll => println!(
+            rt,
+            "brokerage     none, and no expenses and no commission (FR)"
+        ),
         Brokerage::Half => println!(rt, "brokerage     half the usual one (HC)"),
     }
 }

@@ -60,7 +60,7 @@ fine-put KNote v d f h = (h .0, h .1, h .2, h .3, h .4, h .5, h .6, h .7, h .8, 
 fine-put KRate v d f h = (h .0, h .1, h .2, h .3, h .4, h .5, h .6, h .7, h .8, h .9, f)
 
 fine-step : (k : Kind) (must : Bool) (next : Deal → List ℕ → ℕ → Result Deal Refusal → Type 0) → ((d e : Deal) (s : List ℕ) (at : ℕ) → next d s at (Ok e) → Fines d → Fines e)
-  → (d e : Deal) (s : List ℕ) (at : ℕ) → Step k must next d s at (Ok e) → Fines d → Fines e
+    → (d e : Deal) (s : List ℕ) (at : ℕ) → Step k must next d s at (Ok e) → Fines d → Fines e
 fine-step k must next go d e s at (lacks a b z) h = differ (let o : _≡_ {A = ℕ} 0 1 = cc in o)
 fine-step k must next go d e s at (passes a b n) h = go d e s at n h
 fine-step k must next go d e s at (endless w a n z) h = differ (let o : _≡_ {A = ℕ} 0 1 = cc in o)
@@ -171,12 +171,11 @@ text-unbroken k v h i l a b = all-getD Unbroken (text k v) i 0 (omega arith) (no
 
 -- one row of what is written
 module _ (row : Line) (rows : List Line) (d x : Deal)
-  (same : get (row .kind) x ≡ get (row .kind) d)
-  (left-out : get (row .kind) d ≡ None → row .required ≡ false)
-  (free : apart (row .kind) rows ≡ true)
-  (fine : Fine (row .kind) (get (row .kind) d))
-  (rest : (at : ℕ) → Text rows x (written rows d) at (Ok d)) where
-
+    (same : get (row .kind) x ≡ get (row .kind) d)
+    (left-out : get (row .kind) d ≡ None → row .required ≡ false)
+    (free : apart (row .kind) rows ≡ true)
+    (fine : Fine (row .kind) (get (row .kind) d))
+    (rest : (at : ℕ) → Text rows x (written rows d) at (Ok d)) where
   row-back : (at : ℕ) → Text (row ∷ rows) (clear (row .kind) x) (written (row ∷ rows) d) at (Ok d)
   row-back at = go (get (row .kind) d) refl
     where
@@ -228,22 +227,30 @@ written-back d f =
 blank-fine : Fines blank
 blank-fine =
     let c = coded-fits 9 3 (codes "AAA") 0 (omega arith) (omega arith) refl (refl, (refl, (refl, tt))) (omega arith) in
-    let p = coded-fits 6 4 (codes "AAA") 0 (omega arith) (omega arith) refl (refl, (refl, (refl, tt))) (omega arith) in
-    ( nature-judged (blank .nature)
-    , blank-detail
-    , (c, tt, tt, tt)
-    , (((refl, (refl, (refl, (refl, (refl, (refl, (refl, (refl, (refl, (refl, (refl, (refl, (refl, tt))))))))))))), refl), tt, tt, tt)
-    , (p, tt, tt, tt)
-    , (((omega arith, omega arith), (refl, refl)), tt, tt, tt)
-    , tt, tt, tt, tt, tt)
+    let p = coded-fits 6 4 (codes "AAA") 0 (omega arith) (omega arith) refl (refl, (refl, (refl, tt))) (omega arith) in (
+      nature-judged (blank .nature),
+      blank-detail,
+      (c, tt, tt, tt),
+      (((refl, (refl, (refl, (refl, (refl, (refl, (refl, (refl, (refl, (refl, (refl, (refl, (refl, tt))))))))))))), refl), tt, tt, tt),
+      (p, tt, tt, tt),
+      (((omega arith, omega arith), (refl, refl)), tt, tt, tt),
+      tt,
+      tt,
+      tt,
+      tt,
+      tt,
+    )
   where
     blank-detail : Judged (rowOf KDetail) (blank .detail) None
-    blank-detail =
-        ( ( (omega arith, (tt, (tt, (tt, (tt, (tt, (tt, tt)))))))
-          , record { place-as = refl; traded-as = refl; time-as = refl; closing-as = refl; settlement-as = tt; mark-as = refl; interest-as = refl; discount-as = refl })
-        , record { place-listed = (blank .detail .place, refl); settlement-listed = tt; mark-listed = (false, refl) }
-        , record { traded-exists = tt; time-exists = tt; closing-exists = tt; value-date-exists = tt }
-        , tt)
+    blank-detail = (
+      (
+        (omega arith, (tt, (tt, (tt, (tt, (tt, (tt, tt))))))),
+        record { place-as = refl; traded-as = refl; time-as = refl; closing-as = refl; settlement-as = tt; mark-as = refl; interest-as = refl; discount-as = refl },
+      ),
+      record { place-listed = (blank .detail .place, refl); settlement-listed = tt; mark-listed = (false, refl) },
+      record { traded-exists = tt; time-exists = tt; closing-exists = tt; value-date-exists = tt },
+      tt,
+    )
 
 read-fine : (s : List ℕ) (d : Deal) → Answers s (Ok d) → Fines d
 read-fine s d h = fine-text table blank d s 0 h blank-fine

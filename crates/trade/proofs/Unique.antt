@@ -46,9 +46,8 @@ stands-sole k s c rest c′ rest′ h g =
     same-line c rest c′ rest′ (h .2 .1) (g .2 .1) (sym (h .2 .0) ∙ w ∙ g .2 .0)
 
 module _ (k : Kind) (must : Bool) (next : Deal → List ℕ → ℕ → Result Deal Refusal → Type 0)
-  (next-sole : (d : Deal) (s : List ℕ) (at : ℕ) (r q : Result Deal Refusal) → next d s at r → next d s at q → r ≡ q)
-  (d : Deal) (s : List ℕ) (at : ℕ) where
-
+    (next-sole : (d : Deal) (s : List ℕ) (at : ℕ) (r q : Result Deal Refusal) → next d s at r → next d s at q → r ≡ q)
+    (d : Deal) (s : List ℕ) (at : ℕ) where
   cut : {A : Type 0} (w c rest : List ℕ) → s ≡ label k ++ w → Endless w → Stands k s c rest → A
   cut w c rest e n h = absurd (n c rest (subst (λ x. Ends x c rest) (append-cancel-left (label k) (h .0) w (sym (h .1) ∙ e)) (h .2)))
 

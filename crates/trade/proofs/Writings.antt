@@ -40,7 +40,7 @@ lined-at d k j a b r e h = subst (λ y. Lined y (get y d) a b r) (sym e) h
 -- one row
 module _ (rows : List Line) (i : ℕ) (x : Line) (e : drop i rows ≡ x ∷ drop (i + 1) rows) (d : Deal) where
   pub row-good : (a b : Scratch) (q : Result Unit Why) (u : Unit) → _≡_ {A = Result Unit FieldFault} (Ok u) (placed q 0) → Lined (x .kind) (get (x .kind) d) a b q
-    → (((r : Option Why) → Checked (drop (i + 1) rows) d r → Checked (drop i rows) d r) × Grown a b (line (x .kind) (get (x .kind) d)))
+      → (((r : Option Why) → Checked (drop (i + 1) rows) d r → Checked (drop i rows) d r) × Grown a b (line (x .kind) (get (x .kind) d)))
   row-good a b (Ok v) u p h = go (get (x .kind) d) refl h
     where
       go : (o : Option (Meaning (x .kind))) → get (x .kind) d ≡ o → Lined (x .kind) o a b (Ok v) → (((r : Option Why) → Checked (drop (i + 1) rows) d r → Checked (drop i rows) d r) × Grown a b (line (x .kind) o))

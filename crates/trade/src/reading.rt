@@ -4,7 +4,6 @@ ghost use Rattle.std.specs.Results.{Cases as ByOk};
 ghost use Rattle.trade.specs.Deals.{blank};
 ghost use Rattle.trade.specs.Texts.{Text, Answers};
 ghost use Rattle.trade.specs.Views.{view, viewed, placed, Taken, Refused};
-
 use crate::rows::Field;
 use crate::rows::Line;
 use crate::rows::next_field;
@@ -92,14 +91,37 @@ fn unread<'a>() -> Trade<'a>
     ensures { λ r. ⌜ view r ≡ blank ⌝ }
 {
     let place = Place::Frankfurt;
-    let detail = Detail { place, traded: None, time: None, closing: None, settlement: None, new_issue: false, interest_days: None, discount_days: None };
+    let detail = Detail {
+        place,
+        traded: None,
+        time: None,
+        closing: None,
+        settlement: None,
+        new_issue: false,
+        interest_days: None,
+        discount_days: None,
+    };
     Trade {
-        nature: Nature { side: Side::CounterpartyBuys, on_exchange: false },
+        nature: Nature {
+            side: Side::CounterpartyBuys,
+            on_exchange: false,
+        },
         detail,
-        quantity: Quantity { kind: [65, 65, 65], nominal: 0 },
-        security: Isin { bytes: [65, 65, 65, 65, 65, 65, 65, 65, 65, 65, 65, 65] },
-        price: Price { currency: [65, 65, 65], amount: 0 },
-        parties: Parties { entering: 0, counterparty: 0 },
+        quantity: Quantity {
+            kind: [65, 65, 65],
+            nominal: 0,
+        },
+        security: Isin {
+            bytes: [65, 65, 65, 65, 65, 65, 65, 65, 65, 65, 65, 65],
+        },
+        price: Price {
+            currency: [65, 65, 65],
+            amount: 0,
+        },
+        parties: Parties {
+            entering: 0,
+            counterparty: 0,
+        },
         rebate: None,
         brokerage: None,
         charges: None,

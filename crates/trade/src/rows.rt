@@ -2,7 +2,6 @@
 ghost use mathlib.Core.Path.{_≡_};
 ghost use Rattle.trade.specs.Deals.{label, table};
 ghost use Rattle.trade.specs.Views.{kindOf, partOf, Found};
-
 use notation::refusals::TextFault;
 use notation::refusals::TextFromField;
 use walk::reader::Part;
@@ -99,17 +98,50 @@ pub(crate) fn rows() -> [Line; 11]
     ensures { λ r. ⌜ r ≡ table ⌝ }
 {
     [
-        Line { kind: Kind::Nature, required: true },
-        Line { kind: Kind::Detail, required: true },
-        Line { kind: Kind::Quantity, required: true },
-        Line { kind: Kind::Security, required: true },
-        Line { kind: Kind::Price, required: true },
-        Line { kind: Kind::Parties, required: true },
-        Line { kind: Kind::Rebate, required: false },
-        Line { kind: Kind::Brokerage, required: false },
-        Line { kind: Kind::Charges, required: false },
-        Line { kind: Kind::Note, required: false },
-        Line { kind: Kind::Rate, required: false },
+        Line {
+            kind: Kind::Nature,
+            required: true,
+        },
+        Line {
+            kind: Kind::Detail,
+            required: true,
+        },
+        Line {
+            kind: Kind::Quantity,
+            required: true,
+        },
+        Line {
+            kind: Kind::Security,
+            required: true,
+        },
+        Line {
+            kind: Kind::Price,
+            required: true,
+        },
+        Line {
+            kind: Kind::Parties,
+            required: true,
+        },
+        Line {
+            kind: Kind::Rebate,
+            required: false,
+        },
+        Line {
+            kind: Kind::Brokerage,
+            required: false,
+        },
+        Line {
+            kind: Kind::Charges,
+            required: false,
+        },
+        Line {
+            kind: Kind::Note,
+            required: false,
+        },
+        Line {
+            kind: Kind::Rate,
+            required: false,
+        },
     ]
 }
 

@@ -9,7 +9,6 @@ ghost use Rattle.trade.specs.Views.{seen, view};
 ghost use Rattle.trade.specs.Writing.{written, Checked, Lined, Wrote, writeRefusal};
 ghost use Rattle.trade.specs.declared.rows.Kind.the-variants.{Nature as KNature, Detail as KDetail, Quantity as KQuantity, Security as KSecurity, Price as KPrice, Parties as KParties, Rebate as KRebate, Brokerage as KBrokerage, Charges as KCharges, Note as KNote, Rate as KRate};
 ghost use Rattle.trade.specs.declared.writing.WriteFault.the-variants.{Contents as ContentsFault};
-
 use crate::reading::Trade;
 use crate::reading::placed_at;
 use crate::rows::Kind;
@@ -48,7 +47,11 @@ impl WriteFault {
     {
         match self {
             WriteFault::Contents(fault) => fault.refusal(),
-            WriteFault::Short => Refusal { number: 20, layer: Layer::Line, offset: 0 },
+            WriteFault::Short => Refusal {
+                number: 20,
+                layer: Layer::Line,
+                offset: 0,
+            },
         }
     }
 }

@@ -20,14 +20,16 @@ break (x ∷ []) a b = absurd (omega arith)
 break (x ∷ y ∷ t) a b = ap (λ z. z ∷ y ∷ t) a ∙ ap (λ z. 13 ∷ z ∷ t) b
 
 pub line-made : (s c t rest : List ℕ) (i : ℕ) → (i + 1 < length s) × (getD s i 0 ≡ 13) × (getD s (i + 1) 0 ≡ 10)
-  → ((k : ℕ) → k < i → getD s k 0 ≡ 13 → getD s (k + 1) 0 ≡ 10 → ⊥)
-  → s ≡ c ++ t → length c ≡ i → rest ≡ drop 2 t → Ends s c rest
-line-made s c t rest i found before e l r =
-    ( e ∙ ap (λ x. c ++ x) (break t (at 0 (ap (λ n. getD s n 0) (add-zero i) ∙ found .1)) (at 1 (found .2)) ∙ ap (λ x. 13 ∷ 10 ∷ x) (sym r))
-    , λ k h a b. before k (omega (arith, h, l)) (same k (omega arith) ∙ a) (same (k + 1) h ∙ b))
+    → ((k : ℕ) → k < i → getD s k 0 ≡ 13 → getD s (k + 1) 0 ≡ 10 → ⊥)
+    → s ≡ c ++ t → length c ≡ i → rest ≡ drop 2 t → Ends s c rest
+line-made s c t rest i found before e l r = (
+  e ∙ ap (λ x. c ++ x) (break t (at 0 (ap (λ n. getD s n 0) (add-zero i) ∙ found .1)) (at 1 (found .2)) ∙ ap (λ x. 13 ∷ 10 ∷ x) (sym r)),
+  λ k h a b. before k (omega (arith, h, l)) (same k (omega arith) ∙ a) (same (k + 1) h ∙ b),
+)
   where
     at : {b : ℕ} (k : ℕ) → getD s (i + k) 0 ≡ b → getD t k 0 ≡ b
     at k h = sym (ap (λ x. getD x (i + k) 0) e ∙ ap (λ n. getD (c ++ t) (n + k) 0) (sym l) ∙ getD-append-add c t k 0) ∙ h
+
     same : (k : ℕ) → k < length c → getD s k 0 ≡ getD c k 0
     same k h = ap (λ x. getD x k 0) e ∙ getD-append-left c t 0 k h
 

@@ -19,11 +19,13 @@ past-line text at c rest e =
 
 -- the place stays within the text, or where it was
 pub within : (text : List ℕ) (at : ℕ) (u rest : List ℕ) → drop at text ≡ u ++ rest → (at + length u ≤ length text) ⊎ (length u ≡ 0)
-within text at u rest e = elim (cases-lt 0 (length u))
-    [ inl h ↦ inl (omega (arith, h, sym (length-drop at text) ∙ ap length e ∙ length-append u rest))
-    | inr h ↦ inr (omega (arith, h)) ]
+within text at u rest e = elim (cases-lt 0 (length u)) [
+  | inl h ↦ inl (omega (arith, h, sym (length-drop at text) ∙ ap length e ∙ length-append u rest))
+  | inr h ↦ inr (omega (arith, h))
+]
 
 pub from-min : (text : List ℕ) (at : ℕ) → drop (min at (length text)) text ≡ drop at text
-from-min text at = elim (cases-lt at (length text))
-    [ inl h ↦ (let m : min at (length text) ≡ at = omega arith in ap (λ n. drop n text) m)
-    | inr h ↦ (let m : min at (length text) ≡ length text = omega arith in ap (λ n. drop n text) m ∙ drop-all (length text) text (omega arith) ∙ sym (drop-all at text h)) ]
+from-min text at = elim (cases-lt at (length text)) [
+  | inl h ↦ (let m : min at (length text) ≡ at = omega arith in ap (λ n. drop n text) m)
+  | inr h ↦ (let m : min at (length text) ≡ length text = omega arith in ap (λ n. drop n text) m ∙ drop-all (length text) text (omega arith) ∙ sym (drop-all at text h))
+]

@@ -4,7 +4,6 @@ ghost use mathlib.Core.List.{_++_};
 ghost use mathlib.Core.Path.{_≡_};
 ghost use Rattle.std.specs.Options.{Cases as BySome};
 ghost use Rattle.walk.specs.Walk.{left, Absent, Entered, Passed, Ended};
-
 use crate::lines::split_line;
 use notation::refusals::FieldFault;
 use notation::refusals::TextFault;
@@ -78,7 +77,10 @@ impl<'a> Reader<'a> {
                 self.at = at + (bytes.len() + 2);
                 Ok(Part { bytes, at })
             }
-            None => Err(FieldFault { why: Why::Notation, offset: at }),
+            None => Err(FieldFault {
+                why: Why::Notation,
+                offset: at,
+            }),
         }
     }
 

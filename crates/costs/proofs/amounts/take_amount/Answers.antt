@@ -14,7 +14,8 @@ returns-in-Break-d c = rw (c .from-residual .ensures) (no-decimal _ _ _ (c .spli
 
 pub returns : need.returns
 returns c =
-    let d = c .in-Continue-d .ensures tt .counted in
-    ( Some (d .0, c .take-minus-negative .result .0)
-    , amount-there _ _ _ (c .split-slash .ensures .at-the-first-slash) (c .if-head-eq0 .left) (d .0) (d .1) _ _ (c .take-minus-negative .ensures)
-    , ap {B = Option (ℕ × Bool)} (λ n. Some (n, c .take-minus-negative .result .0)) (d .2))
+    let d = c .in-Continue-d .ensures tt .counted in (
+      Some (d .0, c .take-minus-negative .result .0),
+      amount-there _ _ _ (c .split-slash .ensures .at-the-first-slash) (c .if-head-eq0 .left) (d .0) (d .1) _ _ (c .take-minus-negative .ensures),
+      ap {B = Option (ℕ × Bool)} (λ n. Some (n, c .take-minus-negative .result .0)) (d .2),
+    )

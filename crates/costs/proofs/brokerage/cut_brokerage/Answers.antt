@@ -17,8 +17,9 @@ returns-in-Break-optional-code c = let a = c .in-Continue-amount .ensures tt in 
 
 pub returns : need.returns
 returns c =
-    let a = c .in-Continue-amount .ensures tt in
-    ( (a .0, c .in-Continue-optional-code .field-0)
-    , pair-found code code-follows _ _ (a .0) (c .in-Continue-optional-code .field-0) (λ z. c .if-s-eq0 .left (ap length z)) (a .1) (c .in-Continue-optional-code .ensures tt .as-written)
-    , a .2
-    , refl)
+    let a = c .in-Continue-amount .ensures tt in (
+      (a .0, c .in-Continue-optional-code .field-0),
+      pair-found code code-follows _ _ (a .0) (c .in-Continue-optional-code .field-0) (λ z. c .if-s-eq0 .left (ap length z)) (a .1) (c .in-Continue-optional-code .ensures tt .as-written),
+      a .2,
+      refl,
+    )

@@ -20,9 +20,10 @@ returns-in-Break-d c = rw (c .from-residual-in-Break-d .ensures) (no-commission-
 pub returns : need.returns
 returns c =
     let f = c .in-Continue-code .ensures tt .stands-in-front in
-    let d = c .in-Continue-d .ensures tt in
-    ( c .in-Continue-code .code .now
-    , d .0
-    , commission-found _ _ (c .in-Continue-after .ensures tt .follows) _ _ f _ (d .1)
-    , d .2
-    , subst (λ l. CodeOf l (c .basis-of .result)) (sym (two (c .in-Continue-code .code .now) (f .1 .0))) (c .basis-of .ensures))
+    let d = c .in-Continue-d .ensures tt in (
+      c .in-Continue-code .code .now,
+      d .0,
+      commission-found _ _ (c .in-Continue-after .ensures tt .follows) _ _ f _ (d .1),
+      d .2,
+      subst (λ l. CodeOf l (c .basis-of .result)) (sym (two (c .in-Continue-code .code .now) (f .1 .0))) (c .basis-of .ensures),
+    )

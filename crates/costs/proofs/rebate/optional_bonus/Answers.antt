@@ -19,7 +19,8 @@ returns-in-Break-d c = rw (c .from-residual-in-Break-d .ensures) (no-bonus _ _ (
 
 pub returns : need.returns
 returns c =
-    let d = c .in-Continue-d .ensures tt in
-    ( Some (d .0, c .in-Continue-d .negative)
-    , (c .in-Continue-after .ensures tt .follows ∙ ap (λ l. 47 ∷ l) (d .1 .0), d .1 .1)
-    , ap {B = Option (ℕ × Bool)} (λ n. Some (n, c .in-Continue-d .negative)) (d .2 .0))
+    let d = c .in-Continue-d .ensures tt in (
+      Some (d .0, c .in-Continue-d .negative),
+      (c .in-Continue-after .ensures tt .follows ∙ ap (λ l. 47 ∷ l) (d .1 .0), d .1 .1),
+      ap {B = Option (ℕ × Bool)} (λ n. Some (n, c .in-Continue-d .negative)) (d .2 .0),
+    )

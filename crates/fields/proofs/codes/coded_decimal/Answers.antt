@@ -14,8 +14,9 @@ returns-in-Break-d c = rw (c .from-residual-in-Break-d .ensures) (rest-second (e
 pub returns : need.returns
 returns c =
     let f = c .in-Continue-code .ensures tt .stands-in-front in
-    let d = c .in-Continue-d .ensures tt .counted in
-    ( (c .in-Continue-code .code .now, d .0)
-    , (f .0 ∙ ap (λ l. c .in-Continue-code .code .now ++ l) (d .1 .0), (f .1, d .1 .1))
-    , sym (three (c .in-Continue-code .code .now) (f .1 .0))
-    , d .2)
+    let d = c .in-Continue-d .ensures tt .counted in (
+      (c .in-Continue-code .code .now, d .0),
+      (f .0 ∙ ap (λ l. c .in-Continue-code .code .now ++ l) (d .1 .0), (f .1, d .1 .1)),
+      sym (three (c .in-Continue-code .code .now) (f .1 .0)),
+      d .2,
+    )

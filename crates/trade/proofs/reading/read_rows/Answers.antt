@@ -32,12 +32,12 @@ returns-in-Break-set c =
 pub loop-row-again : need.loop-row-again
 loop-row-again c r s =
     c .loop-row .inv r
-    (elim (c .match-branch-2 .came)
-    [ in-Some·in-Continue-set w ↦
-        row-taken (c .args .rows .now) (c .loop-row .row-index) _ (drop-more _ _ _ (c .loop-row-test .taken)) (c .loop-row .reader) (c .next-field .last .reader) (c .loop-row .trade) (w .in-Some .field) (c .match-branch-2 .trade) _ (w .in-Some .is) (c .in-Continue-field .ensures tt .found)
-        (subst (λ t. Taken (w .in-Some .field) (c .loop-row .trade) t) (sym (w .trade-is)) (w .in-Continue-set .ensures tt .set-or-refused)) r s
-    | in-rest w ↦
-        row-passed (c .args .rows .now) (c .loop-row .row-index) _ (drop-more _ _ _ (c .loop-row-test .taken)) (c .loop-row .reader) (c .next-field .last .reader) (c .loop-row .trade) _ (w .in-rest .is) (c .in-Continue-field .ensures tt .found) r (subst (λ t. Text (drop (c .loop-row .row-index + 1) (c .args .rows .now)) (view t) (left (c .next-field .last .reader)) (c .next-field .last .reader .at) r) (w .trade-is) s)
+    (elim (c .match-branch-2 .came) [
+      | in-Some·in-Continue-set w ↦
+          row-taken (c .args .rows .now) (c .loop-row .row-index) _ (drop-more _ _ _ (c .loop-row-test .taken)) (c .loop-row .reader) (c .next-field .last .reader) (c .loop-row .trade) (w .in-Some .field) (c .match-branch-2 .trade) _ (w .in-Some .is) (c .in-Continue-field .ensures tt .found)
+          (subst (λ t. Taken (w .in-Some .field) (c .loop-row .trade) t) (sym (w .trade-is)) (w .in-Continue-set .ensures tt .set-or-refused)) r s
+      | in-rest w ↦
+          row-passed (c .args .rows .now) (c .loop-row .row-index) _ (drop-more _ _ _ (c .loop-row-test .taken)) (c .loop-row .reader) (c .next-field .last .reader) (c .loop-row .trade) _ (w .in-rest .is) (c .in-Continue-field .ensures tt .found) r (subst (λ t. Text (drop (c .loop-row .row-index + 1) (c .args .rows .now)) (view t) (left (c .next-field .last .reader)) (c .next-field .last .reader .at) r) (w .trade-is) s)
     ])
 
 pub returns-in-Break-end : need.returns-in-Break-end

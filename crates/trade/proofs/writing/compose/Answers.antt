@@ -16,9 +16,10 @@ returns-in-Break-placed-at c =
 
 pub loop-row-again : need.loop-row-again
 loop-row-again c =
-    let g = row-good (c .args .rows .now) (c .loop-row .row-index) _ (drop-more _ _ _ (c .loop-row-test .taken)) (view (c .args .trade .now)) (c .loop-row .scratch) (c .line .last .out) (c .line .result) _ (c .in-Continue-placed-at .ensures tt) (c .line .ensures) in
-    ( row-written (c .args .rows .now) (c .loop-row .row-index) _ (drop-more _ _ _ (c .loop-row-test .taken)) (view (c .args .trade .now)) (c .args .scratch .now) (c .loop-row .scratch) (c .line .last .out) (g .1) (c .loop-row .inv .0)
-    , λ r h. c .loop-row .inv .1 r (g .0 r h))
+    let g = row-good (c .args .rows .now) (c .loop-row .row-index) _ (drop-more _ _ _ (c .loop-row-test .taken)) (view (c .args .trade .now)) (c .loop-row .scratch) (c .line .last .out) (c .line .result) _ (c .in-Continue-placed-at .ensures tt) (c .line .ensures) in (
+      row-written (c .args .rows .now) (c .loop-row .row-index) _ (drop-more _ _ _ (c .loop-row-test .taken)) (view (c .args .trade .now)) (c .args .scratch .now) (c .loop-row .scratch) (c .line .last .out) (g .1) (c .loop-row .inv .0),
+      λ r h. c .loop-row .inv .1 r (g .0 r h),
+    )
 
 pub returns : need.returns
 returns c = (all-checked (c .args .rows .now) (c .loop-row .row-index) (c .loop-row-test .left) (view (c .args .trade .now)) (c .loop-row .inv .1), all-written (c .args .rows .now) (c .loop-row .row-index) (c .loop-row-test .left) (view (c .args .trade .now)) (c .args .scratch .now) (c .loop-row .scratch) (c .loop-row .inv .0))

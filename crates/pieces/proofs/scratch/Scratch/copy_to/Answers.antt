@@ -19,7 +19,10 @@ pub returns : need.returns
 returns c =
     let l : length (c .args .self .now .bytes) ≡ 320 = search needs in
     let k : length (take (min (c .args .self .now .len) room) (c .args .self .now .bytes)) ≡ min (c .args .self .now .len) room = length-take-le (min (c .args .self .now .len) room) (c .args .self .now .bytes) (omega arith) in
-    record { copied =
-      ( c .min-n .ensures ∙ sym k
-      , c .if-out-n .left
-      , copied (c .copy-from-slice .last .self) (c .args .self .now .bytes) (c .args .out .now) (c .min-n .result) (c .copy-from-slice .ensures .after) ∙ ap (λ n. take n (c .args .self .now .bytes) ++ drop (c .min-n .result) (c .args .out .now)) (c .min-n .ensures)) }
+    record {
+      copied = (
+        c .min-n .ensures ∙ sym k,
+        c .if-out-n .left,
+        copied (c .copy-from-slice .last .self) (c .args .self .now .bytes) (c .args .out .now) (c .min-n .result) (c .copy-from-slice .ensures .after) ∙ ap (λ n. take n (c .args .self .now .bytes) ++ drop (c .min-n .result) (c .args .out .now)) (c .min-n .ensures),
+      );
+    }

@@ -21,9 +21,10 @@ pub rem-rest : need.rem-rest
 rem-rest c = rw (c .pow-unit .ensures) (ten-pos _)
 
 pub loop-k-again : need.loop-k-again
-loop-k-again c =
-    ( rw (c .pow-unit .ensures) (mod-lt _ (ten-pos _))
-    , fraction-more (c .loop-k .self) (c .push .last .self) _ (c .loop-k .k) (c .loop-k .rest) (c .pow-unit .result) (c .loop-k-test .taken) (c .pow-unit .ensures) (c .push .ensures .grown) (c .if-rest-eq0 .left) (c .loop-k .inv .1))
+loop-k-again c = (
+  rw (c .pow-unit .ensures) (mod-lt _ (ten-pos _)),
+  fraction-more (c .loop-k .self) (c .push .last .self) _ (c .loop-k .k) (c .loop-k .rest) (c .pow-unit .result) (c .loop-k-test .taken) (c .pow-unit .ensures) (c .push .ensures .grown) (c .if-rest-eq0 .left) (c .loop-k .inv .1),
+)
 
 pub returns-after-loop-k : need.returns-after-loop-k
 returns-after-loop-k c = fraction-done (c .loop-k .self) (c .loop-k .k) (c .loop-k .rest) _ (c .loop-k-test .left) (c .loop-k .inv .1)

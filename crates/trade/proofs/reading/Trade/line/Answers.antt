@@ -35,4 +35,3 @@ returns-in-Note c = lined-at (view (c .args .self .now)) (c .args .kind) Note (c
 
 pub returns-in-Rate : need.returns-in-Rate
 returns-in-Rate c = lined-at (view (c .args .self .now)) (c .args .kind) Rate (c .args .out .now) (c .rate-line .last .out) (c .rate-line .result) (c .in-Rate .is) (c .rate-line .ensures)
-

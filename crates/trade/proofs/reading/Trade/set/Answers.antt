@@ -95,4 +95,3 @@ returns-in-Break-placed-at-5 c =
 
 pub returns-in-Continue-placed-at-5 : need.returns-in-Continue-placed-at-5
 returns-in-Continue-placed-at-5 c = record { set-or-refused = taken-as _ (Rate (c .in-Rate .p)) _ _ (c .in-Rate .is) (c .in-Continue-placed-at-5 .field-0, ok-placed row36 _ (c .read-rate .result) (c .in-Rate .p .at) _ (c .in-Continue-placed-at-5 .ensures tt) (c .read-rate .ensures .as-the-row-has-it), refl) }
-
