@@ -5,7 +5,7 @@ use Rattle.notation.specs.Digits.{digits}
 use Rattle.notation.specs.declared.classes.Class.TheVariants.{Digit, Capital}
 use Rattle.notation.proofs.Digits.{all_digits}
 use Rattle.std.specs.List.{AllByRecursion as All}
-use Rattle.std.proofs.lemmas.Bool.{cond_true, cond_false}
+use Rattle.std.proofs.lemmas.Bool.{cond-true, cond-false}
 use Rattle.std.proofs.lemmas.Bool.Decides.{nat_tests}
 use Rattle.pieces.specs.Notation.{Of, Proper, print, exactly, sign}
 use Rattle.detail_cut.specs.Form.{slash_date, coded_date, slash_coded_date, signed_days}
@@ -13,11 +13,11 @@ use Rattle.detail_cut.specs.Runs.{run, opening}
 
 run_digit : (b : ℕ) (w : List ℕ) → is_digit b ≡ true → run (b ∷ w) ≡ suc (run w)
 unfolding run
-run_digit b w h = cond_true (is_digit b) (suc (run w)) 0 h
+run_digit b w h = cond-true (is_digit b) (suc (run w)) 0 h
 
 run_other : (b : ℕ) (w : List ℕ) → is_digit b ≡ false → run (b ∷ w) ≡ 0
 unfolding run
-run_other b w h = cond_false (is_digit b) (suc (run w)) 0 h
+run_other b w h = cond-false (is_digit b) (suc (run w)) 0 h
 
 pub run_end : run [] ≡ 0
 unfolding run

@@ -1,6 +1,6 @@
 -- Frames that a line writes into an output.
 use Rattle.std.proofs.Common.{◌≡◌, ℕ, ◌+◌, ◌-◌, ◌<◌, ◌≤◌, Bool, true, false, cond, ltb, leb, List, ◌∷◌, ◌++◌, length, take, drop, Some, None, Ok, Err, Option, Result, sym, refl, ap, ◌∙◌, subst, ap₂, ⊎_elim, arith, length-append}
-use Rattle.std.proofs.lemmas.Bool.{le-leb, lt-leb, le-ltb, lt-ltb, cases_lt, cond_true, cond_false, leb-false, cases_Bool}
+use Rattle.std.proofs.lemmas.Bool.{le-leb, lt-leb, le-ltb, lt-ltb, cases_lt, cond-true, cond-false, leb-false, cases_Bool}
 use Rattle.frame.specs.Texts.{range_text, range_written}
 use Rattle.frame.specs.Writing.{frame_text, head_text, output_after, unwritable, wrote}
 use Rattle.frame.specs.declared.faults.FrameFault.{FrameFault}
@@ -37,10 +37,10 @@ laid h t o o' r a b c ans out =
     let w : r ≡ cond (ltb (length o) (23 + length t)) (Err Short) (Ok (23 + length t)) = ans ∙ ap (λ u. wrote u (23 + length t) (length o)) (writable h (length t) a b c) in
     ⊎_elim
     (λ (lt : length o < 23 + length t).
-    let e : r ≡ Err Short = w ∙ cond_true (ltb (length o) (23 + length t)) _ _ (lt-ltb (length o) (23 + length t) lt) in
+    let e : r ≡ Err Short = w ∙ cond-true (ltb (length o) (23 + length t)) _ _ (lt-ltb (length o) (23 + length t) lt) in
     none (omega arith) e (out ∙ ap (λ q. output_after q (frame_text h t) o) e))
     (λ (ge : 23 + length t ≤ length o).
-    let e : r ≡ Ok (23 + length t) = w ∙ cond_false (ltb (length o) (23 + length t)) _ _ (le-ltb (length o) (23 + length t) ge) in
+    let e : r ≡ Ok (23 + length t) = w ∙ cond-false (ltb (length o) (23 + length t)) _ _ (le-ltb (length o) (23 + length t) ge) in
     whole (omega arith) (e ∙ ap Ok (sym len)) (out ∙ ap (λ q. output_after q (frame_text h t) o) e ∙ ap (λ n. frame_text h t ++ drop n o) (sym len)))
     (cases_lt (length o) (23 + length t))
 
@@ -54,8 +54,8 @@ pub read_back : (c : Cell) (o out : List ℕ) (n : ℕ) → n ≡ size c → out
 read_back None o out n e w le = let z : n - 0 ≡ 0 = omega arith in rw z refl
 read_back (Some f) o out n e w le =
     ⊎_elim
-    (λ (fits : leb (length f) (length o) ≡ true). let z : n - 0 ≡ length f = omega arith in let q : out ≡ f ++ drop (length f) o = w ∙ cond_true (leb (length f) (length o)) _ _ fits in rw (z, q) (take-append_seam f _))
-    (λ (short : leb (length f) (length o) ≡ false). let q : out ≡ o = w ∙ cond_false (leb (length f) (length o)) _ _ short in absurd (let z : ⊥ = omega (arith, ap length q, leb-false (length f) (length o) short) in z))
+    (λ (fits : leb (length f) (length o) ≡ true). let z : n - 0 ≡ length f = omega arith in let q : out ≡ f ++ drop (length f) o = w ∙ cond-true (leb (length f) (length o)) _ _ fits in rw (z, q) (take-append_seam f _))
+    (λ (short : leb (length f) (length o) ≡ false). let q : out ≡ o = w ∙ cond-false (leb (length f) (length o)) _ _ short in absurd (let z : ⊥ = omega (arith, ap length q, leb-false (length f) (length o) short) in z))
     (cases_Bool (leb (length f) (length o)))
 
 -- the 020 frame was written, or the output is too short
@@ -73,12 +73,12 @@ retrieved m q t o o' r a b c et ans out =
     elim (laid h t o o' r (omega arith) a (omega arith) ans out) [
       | whole fits er eo ↦
           let y : leb 36 (length o) ≡ true = le-leb 36 (length o) (omega arith) in (
-            er ∙ ap Ok size ∙ sym (cond_true (leb 36 (length o)) _ _ y),
-            eo ∙ ap₂ (λ f n. f ++ drop n o) g size ∙ sym (cond_true (leb 36 (length o)) _ _ y),
+            er ∙ ap Ok size ∙ sym (cond-true (leb 36 (length o)) _ _ y),
+            eo ∙ ap₂ (λ f n. f ++ drop n o) g size ∙ sym (cond-true (leb 36 (length o)) _ _ y),
           )
       | none short er eo ↦
           let y : leb 36 (length o) ≡ false = lt-leb 36 (length o) (omega arith) in
-          (er ∙ sym (cond_false (leb 36 (length o)) _ _ y), eo ∙ sym (cond_false (leb 36 (length o)) _ _ y))
+          (er ∙ sym (cond-false (leb 36 (length o)) _ _ y), eo ∙ sym (cond-false (leb 36 (length o)) _ _ y))
     ]
 
 -- what a length that was answered, or a fault, says of the test

@@ -4,7 +4,7 @@ use native.Mathlib.Nat.{div-div-eq-div-mul, pow-zero}
 use Rattle.notation.specs.Digits.{digits}
 use Rattle.std.proofs.lemmas.List.{append_assoc, append-nil, length-append, take_all, take_more, length-take, length-take-le, take_at}
 use Rattle.std.proofs.lemmas.Fmt.{decimal_step, decimal_digit}
-use Rattle.std.proofs.lemmas.Bool.{cond_true, cond_false, eq-eqb, ne_eqb}
+use Rattle.std.proofs.lemmas.Bool.{cond-true, cond-false, eq-eqb, ne_eqb}
 use Rattle.pieces.specs.Plain.{fraction_text}
 use Rattle.pieces.proofs.Numbers.{ten_pos}
 use Rattle.pieces.specs.declared.scratch.Scratch.{Scratch}
@@ -93,7 +93,7 @@ module _ (a b : Scratch) (all : List ℕ) where
       ∙ ap (λ l. take room (l ++ fraction_text k (r % 10 ^ k))) g'
       ∙ take_joined room (held a ++ (48 + r / 10 ^ k) ∷ []) (fraction_text k (r % 10 ^ k))
       ∙ ap (take room) (append_assoc (held a) ((48 + r / 10 ^ k) ∷ []) (fraction_text k (r % 10 ^ k)))
-      ∙ ap (λ l. take room (held a ++ (48 + r / 10 ^ k) ∷ l)) (sym (cond_false (eqb (r % 10 ^ k) 0) [] (fraction_text k (r % 10 ^ k)) ne'))
+      ∙ ap (λ l. take room (held a ++ (48 + r / 10 ^ k) ∷ l)) (sym (cond-false (eqb (r % 10 ^ k) 0) [] (fraction_text k (r % 10 ^ k)) ne'))
       ∙ h
 
   pub fraction_end : (k r u : ℕ) → 0 < k → u ≡ 10 ^ (k - 1) → Grown a b ((48 + r / u) ∷ []) → r % u ≡ 0 → take room (held a ++ fraction_text k r) ≡ all → held b ≡ all
@@ -102,7 +102,7 @@ module _ (a b : Scratch) (all : List ℕ) where
       let one : suc k - 1 ≡ k = omega arith in
       let q : u ≡ 10 ^ k = rw one at p in
       let z' = eq-eqb (r % 10 ^ k) 0 (rw q at z) in
-      g ∙ ap (λ v. take room (held a ++ (48 + r / v) ∷ [])) q ∙ ap (λ l. take room (held a ++ (48 + r / 10 ^ k) ∷ l)) (sym (cond_true (eqb (r % 10 ^ k) 0) [] (fraction_text k (r % 10 ^ k)) z')) ∙ h
+      g ∙ ap (λ v. take room (held a ++ (48 + r / v) ∷ [])) q ∙ ap (λ l. take room (held a ++ (48 + r / 10 ^ k) ∷ l)) (sym (cond-true (eqb (r % 10 ^ k) 0) [] (fraction_text k (r % 10 ^ k)) z')) ∙ h
 
 pub fraction_done : (a : Scratch) (k r : ℕ) (all : List ℕ) → k ≤ 0 → take room (held a ++ fraction_text k r) ≡ all → held a ≡ all
 fraction_done a zero r all h e = grown_none a ∙ e

@@ -7,7 +7,7 @@ use Rattle.notation.specs.declared.classes.Class.TheVariants.{Digit}
 use Rattle.std.specs.List.{AllByRecursion as All}
 use Rattle.std.proofs.lemmas.Fmt.{digits_decimal, digits_value-decimal, length-decimal-le, decimal-digits_value, decimal_digit, first_decimal}
 use Rattle.std.proofs.lemmas.Str.Parse.{IsNumeralModel, FoldsDigits, IsDigitsTest, numerals_by_fold}
-use Rattle.std.proofs.lemmas.Bool.{eqb-true, eqb-false, ne_eqb, cond_false}
+use Rattle.std.proofs.lemmas.Bool.{eqb-true, eqb-false, ne_eqb, cond-false}
 use Rattle.pieces.specs.Notation.{Of, Proper, dec, units}
 use Rattle.pieces.specs.Plain.{whole_text, fraction_text, plain, last_of, NoLead, NoTrail, Plain, OnePlainText, ZeroText}
 use Rattle.pieces.proofs.Numbers.{ten_pos, digit_range, digit_is, value_cons, value_nil}
@@ -153,7 +153,7 @@ fraction_plain (suc j) (d ∷ []) a some few n = text_step j (d - 48) 0 _ (ten_p
     back = omega (arith, digit_range d a.0)
 fraction_plain (suc j) (d ∷ e ∷ f) a some few n =
     text_step j (d - 48) (value (e ∷ f) * 10 ^ (j - length (e ∷ f))) _ small counts
-    ∙ ap (λ l. (48 + (d - 48)) ∷ l) (cond_false _ [] _ (ne_eqb _ 0 positive) ∙ fraction_plain j (e ∷ f) a.1 (omega arith) fits (keep f n))
+    ∙ ap (λ l. (48 + (d - 48)) ∷ l) (cond-false _ [] _ (ne_eqb _ 0 positive) ∙ fraction_plain j (e ∷ f) a.1 (omega arith) fits (keep f n))
     ∙ ap (λ b. b ∷ e ∷ f) back
   where
     fits : length (e ∷ f) ≤ j
@@ -182,7 +182,7 @@ fraction_plain (suc j) (d ∷ e ∷ f) a some few n =
 
 whole_plain : (w : List ℕ) → All (Of Digit) w → NoLead w → value w < 2 ^ 64 → whole_text (value w) ≡ w
 whole_plain [] a n l = ap whole_text value_nil
-whole_plain (d ∷ w) a n l = cond_false _ [] _ (ne_eqb (value (d ∷ w)) 0 positive) ∙ same
+whole_plain (d ∷ w) a n l = cond-false _ [] _ (ne_eqb (value (d ∷ w)) 0 positive) ∙ same
   where
     same : decimal (value (d ∷ w)) ≡ d ∷ w
     same = decimal-digits_value own (d ∷ w) a (omega arith) (λ z. absurd (n z)) l
