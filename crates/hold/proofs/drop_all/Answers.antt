@@ -7,8 +7,8 @@ loop-place-preserved g c =
     let m = g.H.Hold in
     let cs = m.cells c.args.hold.now in
     let h : c.loop-place.place < length cs = omega (arith, c.places-place-end.ensures.answer) in (
-      c.drop.ensures.cells-after ∙ dropped_more cs (m.cells c.loop-place.hold) c.loop-place.place h c.loop-place.invariant.0,
-      c.drop.ensures.most-unchanged ∙ c.loop-place.invariant.1,
+      c.drop.ensures.cells_after ∙ dropped_more cs (m.cells c.loop-place.hold) c.loop-place.place h c.loop-place.invariant.0,
+      c.drop.ensures.most_unchanged ∙ c.loop-place.invariant.1,
     )
 
 pub returns : goal.returns
@@ -16,4 +16,4 @@ returns g c =
     let m = g.H.Hold in
     let cs = m.cells c.args.hold.now in
     let h : c.loop-place.place ≡ length cs = omega (arith, c.places-place-end.ensures.answer) in
-    record { all-empty = dropped_all cs (m.cells c.loop-place.hold) c.loop-place.place h c.loop-place.invariant.0; most-unchanged = c.loop-place.invariant.1 }
+    record { all_empty = dropped_all cs (m.cells c.loop-place.hold) c.loop-place.place h c.loop-place.invariant.0; most_unchanged = c.loop-place.invariant.1 }

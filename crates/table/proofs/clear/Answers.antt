@@ -18,4 +18,4 @@ pub returns : goal.returns
 returns g c =
     let xs = c.args.entries.now in
     let h : length xs ≤ c.loop-entry.entry-index = omega arith in
-    record { all-empty = c.loop-entry.invariant ∙ map_part_all emptied xs _ h ∙ map_emptied xs }
+    record { all_empty = c.loop-entry.invariant ∙ map_part_all emptied xs _ h ∙ map_emptied xs }

@@ -4,7 +4,7 @@ use Rattle.table.proofs.Places.{taken_empty}
 use Rattle.table.specs.Places.{taken_places}
 use Rattle.book.proofs.Book.clear.Goals as goal
 
-pub invariant-of-self : goal.invariant-of-self
-invariant-of-self c =
-    let e : taken_places c.clear.new.self.entries.now ≡ 0 = ap taken_places c.clear.ensures.all-empty ∙ taken_empty OpenTrade _ in
+pub invariant_of-self : goal.invariant_of-self
+invariant_of-self c =
+    let e : taken_places c.clear.new.self.entries.now ≡ 0 = ap taken_places c.clear.ensures.all_empty ∙ taken_empty OpenTrade _ in
     (omega arith, (omega arith, tt))

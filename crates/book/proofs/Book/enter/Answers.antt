@@ -5,19 +5,19 @@ use Rattle.book.specs.View.{entries_of, ledger}
 use Rattle.book.proofs.Ledgers.{free, one_more, place_inside}
 use Rattle.book.proofs.Book.enter.Goals as goal
 
-pub nonzero-rem-place : goal.nonzero-rem-place
-nonzero-rem-place c =
-    let f = free (ledger c.args.self.now) c.in-ok-isn.isn c.in-ok-isn.ensures.answer in
+pub nonzero_rem-place : goal.nonzero_rem-place
+nonzero_rem-place c =
+    let f = free (ledger c.args.self.now) c.in_ok-isn.isn c.in_ok-isn.ensures.answer in
     omega (arith, f.some, c.places.ensures.answer)
 
-pub invariant-of-self : goal.invariant-of-self
-invariant-of-self c =
+pub invariant_of-self : goal.invariant_of-self
+invariant_of-self c =
     let b = ledger c.args.self.now in
-    let n = c.in-ok-isn.isn in
-    let f = free b n c.in-ok-isn.ensures.answer in
+    let n = c.in_ok-isn.isn in
+    let f = free b n c.in_ok-isn.ensures.answer in
     let at : n.0 % c.places.result ≡ place_of b (b.posted + 1) = ap₂ (λ k u. k % u) f.numbered c.places.ensures.answer in
     let e : taken_places c.put.new.self.entries.now ≡ taken_places b.entries + 1 =
-    ap taken_places (c.put.ensures.entries-after ∙ ap (λ i. set b.entries i (Some (record { isn = n }))) at)
+    ap taken_places (c.put.ensures.entries_after ∙ ap (λ i. set b.entries i (Some (record { isn = n }))) at)
     ∙ one_more b.entries (place_of b (b.posted + 1)) (record { isn = n }) (place_inside b (b.posted + 1) f.some) f.empty in
     let a = c.args.self.now.account in
     (omega (arith, f.numbered), (omega (arith, f.numbered, f.below), tt))

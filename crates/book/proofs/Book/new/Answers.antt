@@ -4,7 +4,7 @@ use Rattle.table.proofs.Places.{taken_empty}
 use Rattle.table.specs.Places.{taken_places}
 use Rattle.book.proofs.Book.new.Goals as goal
 
-pub invariant-of-result : goal.invariant-of-result
-invariant-of-result c =
-    let e : taken_places c.new.result.entries.now ≡ 0 = ap taken_places c.new.ensures.all-empty ∙ taken_empty OpenTrade _ in
+pub invariant_of-result : goal.invariant_of-result
+invariant_of-result c =
+    let e : taken_places c.new.result.entries.now ≡ 0 = ap taken_places c.new.ensures.all_empty ∙ taken_empty OpenTrade _ in
     (omega arith, (omega arith, tt))

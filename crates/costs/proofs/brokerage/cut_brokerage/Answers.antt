@@ -8,17 +8,17 @@ use Rattle.costs.proofs.brokerage.cut_brokerage.Goals as goal
 pub returns-then-s-eq0 : goal.returns-then-s-eq0
 returns-then-s-eq0 c v h = h.1.1 (sym h.0 ∙ nil_from_length c.args.s.now c.if-s-eq0.true)
 
-pub returns-in-err-amount : goal.returns-in-err-amount
-returns-in-err-amount c = rw c.from-residual.ensures (pair_no_amount code code_follows _ c.in-err-amount.ensures)
+pub returns-in_err-amount : goal.returns-in_err-amount
+returns-in_err-amount c = rw c.from_residual.ensures (pair_no_amount code code_follows _ c.in_err-amount.ensures)
 
-pub returns-in-err-optional-code : goal.returns-in-err-optional-code
-returns-in-err-optional-code c = let a = c.in-ok-amount.ensures in rw c.from-residual-in-err-optional-code.ensures (pair_no_rest code code_follows _ _ a.0 a.1 c.in-err-optional-code.ensures.as_written)
+pub returns-in_err-optional_code : goal.returns-in_err-optional_code
+returns-in_err-optional_code c = let a = c.in_ok-amount.ensures in rw c.from_residual-in_err-optional_code.ensures (pair_no_rest code code_follows _ _ a.0 a.1 c.in_err-optional_code.ensures.as_written)
 
 pub returns : goal.returns
 returns c =
-    let a = c.in-ok-amount.ensures in (
-      (a.0, c.in-ok-optional-code.field-0),
-      pair_found code code_follows _ _ a.0 c.in-ok-optional-code.field-0 (λ z. c.if-s-eq0.false (ap length z)) a.1 c.in-ok-optional-code.ensures.as_written,
+    let a = c.in_ok-amount.ensures in (
+      (a.0, c.in_ok-optional_code.field-0),
+      pair_found code code_follows _ _ a.0 c.in_ok-optional_code.field-0 (λ z. c.if-s-eq0.false (ap length z)) a.1 c.in_ok-optional_code.ensures.as_written,
       a.2,
       refl,
     )

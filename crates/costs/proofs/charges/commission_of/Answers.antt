@@ -3,8 +3,8 @@ use Rattle.costs.specs.Costs.{CodeOf, basis_letters}
 use Rattle.costs.proofs.Sums.{told_unlisted, told_amount}
 use Rattle.costs.proofs.charges.commission_of.Goals as goal
 
-pub returns-in-default : goal.returns-in-default
-returns-in-default c k w e m = told_unlisted k (w, c.args.negative) (subst (CodeOf k) c.in-default.is e)
+pub returns-in_default : goal.returns-in_default
+returns-in_default c k w e m = told_unlisted k (w, c.args.negative) (subst (CodeOf k) c.in_default.is e)
 
 pub returns-else-d-gt2 : goal.returns-else-d-gt2
 returns-else-d-gt2 c k w e m =

@@ -5,12 +5,12 @@ use Rattle.detail.proofs.laws.details_have_one_form.Goals as goal
 
 pub returns : goal.returns
 returns c = record {
-  notation-as-in-the-table = refl;
-  contents-have-one-answer = one_answer;
-  written-reads-back-as-the-same = reads_back;
-  refused-exactly-when-no-contents-mean-it = refused_exactly;
-  same-meaning-exactly-when-written-alike = written_alike;
-  written-within-38-bytes = at_most_38;
-  written-without-carriage-return = without_return;
-  worked-readings = worked;
+  notation_as_in_the_table = refl;
+  contents_have_one_answer = one_answer;
+  written_reads_back_as_the_same = reads_back;
+  refused_exactly_when_no_contents_mean_it = refused_exactly;
+  same_meaning_exactly_when_written_alike = written_alike;
+  written_within_38_bytes = at_most_38;
+  written_without_carriage_return = without_return;
+  worked_readings = worked;
 }

@@ -5,5 +5,5 @@ use Rattle.pieces.specs.Notation.{print, number, opt}
 use Rattle.pieces.proofs.Growing.{grown_none, grown_as}
 use Rattle.detail.proofs.writing.write_time.Goals as goal
 
-pub returns-in-default : goal.returns-in-default
-returns-in-default c = grown_as c.args.out.now c.args.out.now [] _ (ap (λ o. print (opt (number 4)) (option_map minute_stamp o)) (sym c.in-default.is)) (grown_none c.args.out.now)
+pub returns-in_default : goal.returns-in_default
+returns-in_default c = grown_as c.args.out.now c.args.out.now [] _ (ap (λ o. print (opt (number 4)) (option_map minute_stamp o)) (sym c.in_default.is)) (grown_none c.args.out.now)

@@ -5,11 +5,11 @@ use Rattle.detail_cut.specs.Form.{from_traded}
 use Rattle.detail_cut.proofs.Whole.{detail_none, detail_found}
 use Rattle.detail_cut.proofs.cut.cut_detail.Goals as goal
 
-pub returns-in-err-place : goal.returns-in-err-place
-returns-in-err-place c = rw c.from-residual.ensures (record { as-they-stand = rest_first (number 3) from_traded _ c.in-err-place.ensures.stands-in-front })
+pub returns-in_err-place : goal.returns-in_err-place
+returns-in_err-place c = rw c.from_residual.ensures (record { as_they_stand = rest_first (number 3) from_traded _ c.in_err-place.ensures.stands_in_front })
 
 pub returns-then-rest-gt0 : goal.returns-then-rest-gt0
-returns-then-rest-gt0 c = record { as-they-stand = detail_none _ _ _ _ _ _ _ _ _ _ _ _ _ _ _ _ _ c.in-ok-place.ensures.stands-in-front c.take-traded-traded.ensures c.take-time-time.ensures c.take-closing-closing.ensures c.take-settlement.ensures c.take-mark.ensures c.take-interest-interest.ensures c.take-discount-discount.ensures c.if-rest-gt0.true }
+returns-then-rest-gt0 c = record { as_they_stand = detail_none _ _ _ _ _ _ _ _ _ _ _ _ _ _ _ _ _ c.in_ok-place.ensures.stands_in_front c.take_traded-traded.ensures c.take_time-time.ensures c.take_closing-closing.ensures c.take_settlement.ensures c.take_mark.ensures c.take_interest-interest.ensures c.take_discount-discount.ensures c.if-rest-gt0.true }
 
 pub returns : goal.returns
-returns c = record { as-they-stand = detail_found _ _ _ _ _ _ _ _ _ _ _ _ _ _ _ _ _ c.in-ok-place.ensures.stands-in-front c.take-traded-traded.ensures c.take-time-time.ensures c.take-closing-closing.ensures c.take-settlement.ensures c.take-mark.ensures c.take-interest-interest.ensures c.take-discount-discount.ensures (omega (arith, c.if-rest-gt0.false)) }
+returns c = record { as_they_stand = detail_found _ _ _ _ _ _ _ _ _ _ _ _ _ _ _ _ _ c.in_ok-place.ensures.stands_in_front c.take_traded-traded.ensures c.take_time-time.ensures c.take_closing-closing.ensures c.take_settlement.ensures c.take_mark.ensures c.take_interest-interest.ensures c.take_discount-discount.ensures (omega (arith, c.if-rest-gt0.false)) }

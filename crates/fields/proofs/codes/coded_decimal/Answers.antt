@@ -6,15 +6,15 @@ use Rattle.pieces.proofs.Forms.{sized_exactly, rest_second}
 use Rattle.fields.proofs.Rows.{three}
 use Rattle.fields.proofs.codes.coded_decimal.Goals as goal
 
-pub returns-in-err-d : goal.returns-in-err-d
-returns-in-err-d c = rw c.from-residual-in-err-d.ensures (rest_second (exactly 3 Capital) (dec (min c.args.whole 13) (places c.args.scale)) _ 3 (sized_exactly 3 Capital) _ _ c.in-ok-code.ensures.stands-in-front c.in-err-d.ensures.counted)
+pub returns-in_err-d : goal.returns-in_err-d
+returns-in_err-d c = rw c.from_residual-in_err-d.ensures (rest_second (exactly 3 Capital) (dec (min c.args.whole 13) (places c.args.scale)) _ 3 (sized_exactly 3 Capital) _ _ c.in_ok-code.ensures.stands_in_front c.in_err-d.ensures.counted)
 
 pub returns : goal.returns
 returns c =
-    let f = c.in-ok-code.ensures.stands-in-front in
-    let d = c.in-ok-d.ensures.counted in (
-      (c.in-ok-code.code.now, d.0),
-      (f.0 ∙ ap (λ l. c.in-ok-code.code.now ++ l) d.1.0, (f.1, d.1.1)),
-      sym (three c.in-ok-code.code.now f.1.0),
+    let f = c.in_ok-code.ensures.stands_in_front in
+    let d = c.in_ok-d.ensures.counted in (
+      (c.in_ok-code.code.now, d.0),
+      (f.0 ∙ ap (λ l. c.in_ok-code.code.now ++ l) d.1.0, (f.1, d.1.1)),
+      sym (three c.in_ok-code.code.now f.1.0),
       d.2,
     )

@@ -8,4 +8,4 @@ use Rattle.fields.proofs.codes.two_capitals.Goals as goal
 pub returns : goal.returns
 returns c =
     let e = two c.args.s.now c.if-s-ne2.false in
-    (e, (refl, subst (All (Of Capital)) e (c.if-not-all-of.ensures.each-of-the-class.0 refl)))
+    (e, (refl, subst (All (Of Capital)) e (c.if-not-all_of.ensures.each_of_the_class.0 refl)))

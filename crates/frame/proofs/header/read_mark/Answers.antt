@@ -2,9 +2,9 @@ use Rattle.std.proofs.Common.{rules}
 use Rattle.frame.specs.Forms.{wrong_from}
 use Rattle.frame.proofs.header.read_mark.Goals as goal
 
-pub returns-in-default : goal.returns-in-default
+pub returns-in_default : goal.returns-in_default
 unfolding wrong_from
-returns-in-default c = search rules
+returns-in_default c = search rules
 
 pub returns-then-frame-ne44 : goal.returns-then-frame-ne44
 unfolding wrong_from

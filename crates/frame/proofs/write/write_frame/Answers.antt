@@ -11,12 +11,12 @@ returns c =
     let t = c.args.text.now in
     let fine : unwritable h (length t) ≡ None = search rules in
     let after = laid _ _ (head_text h (length t)) t c.args.out.now
-    (c.copy-from-slice.ensures.after ∙ c.bytes-head.ensures.every_byte) c.copy-from-slice-2.ensures.after (length_head h (length t)) in
+    (c.copy_from_slice.ensures.after ∙ c.bytes-head.ensures.every_byte) c.copy_from_slice-2.ensures.after (length_head h (length t)) in
     let back = front_back h t _ c.args.out.now fine after in
     record {
       answer = search rules;
       output = after;
-      refusal-changes-nothing = tt;
+      refusal_changes_nothing = tt;
       reads_back = back;
-      judged-as-written = judged_back h t _ back;
+      judged_as_written = judged_back h t _ back;
     }

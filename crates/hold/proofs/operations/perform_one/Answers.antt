@@ -13,9 +13,9 @@ returns-in-Keep g c =
     let stored = c.keep-operation.result in
     record {
       law = λ h l. subst (λ t. Law (length cs) top (event t stored ∷ h) ds) (sym c.in-Keep.is)
-          (law_kept (length cs) top h cs ds c.in-Keep.place c.in-Keep.frame.now stored l c.keep-operation.ensures.answer c.keep-operation.ensures.cells-after);
-      most-unchanged = c.keep-operation.ensures.most-unchanged;
-      task-unchanged = refl;
+          (law_kept (length cs) top h cs ds c.in-Keep.place c.in-Keep.frame.now stored l c.keep-operation.ensures.answer c.keep-operation.ensures.cells_after);
+      most_unchanged = c.keep-operation.ensures.most_unchanged;
+      task_unchanged = refl;
     }
 
 pub returns-in-Drop : goal.returns-in-Drop
@@ -26,7 +26,7 @@ returns-in-Drop g c =
     let top = m.most c.args.hold.now in
     record {
       law = λ h l. subst (λ t. Law (length cs) top (event t false ∷ h) ds) (sym c.in-Drop.is)
-          (law_dropped (length cs) top h cs ds c.in-Drop.place l c.drop.ensures.cells-after);
-      most-unchanged = c.drop.ensures.most-unchanged;
-      task-unchanged = refl;
+          (law_dropped (length cs) top h cs ds c.in-Drop.place l c.drop.ensures.cells_after);
+      most_unchanged = c.drop.ensures.most_unchanged;
+      task_unchanged = refl;
     }

@@ -6,11 +6,11 @@ use Rattle.line.proofs.posting.compose.Goals as goal
 
 pub returns-in-Ok : goal.returns-in-Ok
 returns-in-Ok c =
-    record { composed = composed_text (view c.args.trade.now) c.args.text.now c.write.new.out c.in-Ok.size c.in-Ok.ensures.written-or-refused c.write.auto.out }
+    record { composed = composed_text (view c.args.trade.now) c.args.text.now c.write.new.out c.in-Ok.size c.in-Ok.ensures.written_or_refused c.write.auto.out }
 
 pub returns-in-Err : goal.returns-in-Err
 returns-in-Err c =
     record {
-      composed = subst (λ e. Composed (view c.args.trade.now) c.write.new.out (Err e)) (sym c.fault-of.ensures.same-refusal)
-          (composed_fault (view c.args.trade.now) c.args.text.now c.write.new.out c.in-Err.fault c.requires c.in-Err.ensures.written-or-refused);
+      composed = subst (λ e. Composed (view c.args.trade.now) c.write.new.out (Err e)) (sym c.fault_of.ensures.same_refusal)
+          (composed_fault (view c.args.trade.now) c.args.text.now c.write.new.out c.in-Err.fault c.requires c.in-Err.ensures.written_or_refused);
     }

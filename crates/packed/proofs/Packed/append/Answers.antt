@@ -8,8 +8,8 @@ use Rattle.hold.proofs.Parts.{length_put}
 use Rattle.packed.proofs.Spans.{inside_kept, apart_kept, cells_kept, total_set}
 use Rattle.packed.proofs.Packed.append.Goals as goal
 
-pub invariant-of-self : goal.invariant-of-self
-invariant-of-self c =
+pub invariant_of-self : goal.invariant_of-self
+invariant_of-self c =
     let p = c.args.self.now in
     let es = p.spans.entries.now in
     let b = p.bytes.now in
@@ -19,10 +19,10 @@ invariant-of-self c =
     let v : Span = record { start = u; len = n } in
     let few : length es ≤ 64 = p.few in
     let small : length b ≤ 65535 = p.small in
-    let e : c.put.new.self.entries.now ≡ set es k (Some v) = c.put.ensures.entries-after in
+    let e : c.put.new.self.entries.now ≡ set es k (Some v) = c.put.ensures.entries_after in
     let le : length c.put.new.self.entries.now ≡ length es = ap length e ∙ length-set es k (Some v) in
-    let lb : length (put_mid u ((u + n) - u) b c.copy-from-slice.new.self) ≡ length b =
-    length_put u ((u + n) - u) b c.copy-from-slice.new.self (omega (arith, c.requires.room)) (omega (arith, ap length c.copy-from-slice.ensures.after)) in
+    let lb : length (put_mid u ((u + n) - u) b c.copy_from_slice.new.self) ≡ length b =
+    length_put u ((u + n) - u) b c.copy_from_slice.new.self (omega (arith, c.requires.room)) (omega (arith, ap length c.copy_from_slice.ensures.after)) in
     let t : total (set es k (Some v)) + extent (get_or es k None) ≡ total es + n = total_set es k (Some v) c.requires.below in
     let w : u ≡ total es = p.full in
     let x : extent (get_or es k None) ≡ 0 = ap extent c.requires.empty in
@@ -41,7 +41,7 @@ invariant-of-self c =
               subst (Inside (u + n)) (sym e) (inside_kept es k u n v c.requires.below p.inside refl refl),
               (
                 subst Apart (sym e) (apart_kept es k u n v c.requires.below p.inside refl p.apart),
-                ((c.occupy.ensures.mask-after flags lf (f64, p.tied)).1 ∙ ap mask_of (sym (ap (map is_some) e ∙ map-set is_some es k (Some v))), tt),
+                ((c.occupy.ensures.mask_after flags lf (f64, p.tied)).1 ∙ ap mask_of (sym (ap (map is_some) e ∙ map-set is_some es k (Some v))), tt),
               ),
             ),
           ),
@@ -58,11 +58,11 @@ returns c =
     let k = c.args.place in
     let n = length c.args.frame.now in
     let v : Span = record { start = u; len = n } in
-    let z = c.copy-from-slice.new.self in
-    let q : z ≡ c.args.frame.now = c.copy-from-slice.ensures.after in
+    let z = c.copy_from_slice.new.self in
+    let q : z ≡ c.args.frame.now = c.copy_from_slice.ensures.after in
     let r : u + n ≤ length b = c.requires.room in
     record {
-      cells-after = ap (λ xs. cells_of xs (put_mid u ((u + n) - u) b z)) c.put.ensures.entries-after
+      cells_after = ap (λ xs. cells_of xs (put_mid u ((u + n) - u) b z)) c.put.ensures.entries_after
           ∙ cells_kept es b c.args.frame.now z k u ((u + n) - u) v p.inside r refl refl (omega arith) q;
-      most-unchanged = length_put u ((u + n) - u) b z (omega arith) (omega (arith, ap length q));
+      most_unchanged = length_put u ((u + n) - u) b z (omega arith) (omega (arith, ap length q));
     }

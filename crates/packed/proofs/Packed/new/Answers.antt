@@ -7,11 +7,11 @@ use Rattle.packed.specs.Spans.{Inside, Apart, cells_of, total}
 use Rattle.packed.proofs.Spans.{total_none, cells_none, inside_none, apart_none}
 use Rattle.packed.proofs.Packed.new.Goals as goal
 
-pub invariant-of-result : goal.invariant-of-result
-invariant-of-result c =
+pub invariant_of-result : goal.invariant_of-result
+invariant_of-result c =
     let p = c.min-places.result - 0 in
     let m = length (take p c.args.spans.now) in
-    let z : c.new.result.entries.now ≡ replicate m None = c.new.ensures.all-empty in
+    let z : c.new.result.entries.now ≡ replicate m None = c.new.ensures.all_empty in
     let l : length c.new.result.entries.now ≡ m = ap length z ∙ length-replicate m None in
     let lm : m ≡ min p (length c.args.spans.now) = length-take p c.args.spans.now in
     let lb : length (take (c.min-most.result - 0) c.args.bytes.now) ≡ min (c.min-most.result - 0) (length c.args.bytes.now) = length-take _ _ in
@@ -27,7 +27,7 @@ invariant-of-result c =
               subst (Inside 0) (sym z) (inside_none m),
               (
                 subst Apart (sym z) (apart_none m),
-                ((c.new-2.ensures.all-free m m64).1 ∙ sym (ap mask_of (ap (map is_some) z ∙ flags_none Span m)), tt),
+                ((c.new-2.ensures.all_free m m64).1 ∙ sym (ap mask_of (ap (map is_some) z ∙ flags_none Span m)), tt),
               ),
             ),
           ),
@@ -44,6 +44,6 @@ returns c =
     let lb : length b ≡ min (c.min-most.result - 0) (length c.args.bytes.now) = length-take _ _ in
     let e : m ≡ min 64 (length c.args.spans.now) = omega (arith, c.min-places.ensures) in
     record {
-      all-empty = ap (λ es. cells_of es b) c.new.ensures.all-empty ∙ cells_none m b ∙ ap (λ n. replicate n None) e;
+      all_empty = ap (λ es. cells_of es b) c.new.ensures.all_empty ∙ cells_none m b ∙ ap (λ n. replicate n None) e;
       most = omega (arith, c.min-most.ensures);
     }

@@ -7,8 +7,8 @@ use Rattle.packed.proofs.Spans.{set_cells, total_set}
 use Rattle.packed.proofs.Closing.{low_cells, low_total, low_flags, low_inside, low_apart, emptied_gap, emptied_apart}
 use Rattle.packed.proofs.Packed.take_out.Goals as goal
 
-pub invariant-of-self : goal.invariant-of-self
-invariant-of-self c =
+pub invariant_of-self : goal.invariant_of-self
+invariant_of-self c =
     let p = c.args.self.now in
     let es = p.spans.entries.now in
     let b = p.bytes.now in
@@ -23,10 +23,10 @@ invariant-of-self c =
     let kb = c.requires.below in
     let h : a + n ≤ u = c.requires.within in
     let ds = set es k None in
-    let e : c.lower-all.new.spans.entries.now ≡ map (lowered (a + n) n) ds =
-    c.lower-all.ensures.spans-after ∙ ap (map (lowered (a + n) n)) c.remove.ensures.entries-after in
-    let le : length c.lower-all.new.spans.entries.now ≡ length es = ap length e ∙ length-map ds (lowered (a + n) n) ∙ length-set es k None in
-    let lb : length c.close-gap.new.bytes ≡ length b = ap length c.close-gap.ensures.bytes_after ∙ closed_length a n u b h fits in
+    let e : c.lower_all.new.spans.entries.now ≡ map (lowered (a + n) n) ds =
+    c.lower_all.ensures.spans_after ∙ ap (map (lowered (a + n) n)) c.remove.ensures.entries_after in
+    let le : length c.lower_all.new.spans.entries.now ≡ length es = ap length e ∙ length-map ds (lowered (a + n) n) ∙ length-set es k None in
+    let lb : length c.close_gap.new.bytes ≡ length b = ap length c.close_gap.ensures.bytes_after ∙ closed_length a n u b h fits in
     let t : total ds + extent (get_or es k None) ≡ total es + 0 = total_set es k None kb in
     let x : extent (get_or es k None) ≡ n = ap extent c.requires.there in
     let f = emptied_gap es k kb u c.args.span p.inside p.apart c.requires.there in
@@ -44,7 +44,7 @@ invariant-of-self c =
               (
                 subst Apart (sym e) (low_apart ds a n u f (emptied_apart es k kb p.apart)),
                 (
-                  (c.free.ensures.mask-after flags (f64, p.tied)).1
+                  (c.free.ensures.mask_after flags (f64, p.tied)).1
                       ∙ ap mask_of (sym (ap (map is_some) e ∙ low_flags ds (a + n) n ∙ map-set is_some es k None)),
                   tt,
                 ),
@@ -69,7 +69,7 @@ returns c =
     let h : a + n ≤ u = c.requires.within in
     let ds = set es k None in
     record {
-      cells-after = ap₂ cells_of (c.lower-all.ensures.spans-after ∙ ap (map (lowered (a + n) n)) c.remove.ensures.entries-after) c.close-gap.ensures.bytes_after
+      cells_after = ap₂ cells_of (c.lower_all.ensures.spans_after ∙ ap (map (lowered (a + n) n)) c.remove.ensures.entries_after) c.close_gap.ensures.bytes_after
           ∙ low_cells a n u b h fits ds (emptied_gap es k kb u c.args.span p.inside p.apart c.requires.there) ∙ set_cells es b k None;
-      most-unchanged = ap length c.close-gap.ensures.bytes_after ∙ closed_length a n u b h fits;
+      most_unchanged = ap length c.close_gap.ensures.bytes_after ∙ closed_length a n u b h fits;
     }

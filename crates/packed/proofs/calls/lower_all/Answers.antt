@@ -15,10 +15,10 @@ loop-place-preserved c =
     let e : length ys ≡ length xs = ap length c.loop-place.invariant ∙ map_part_length f xs k in
     let h : k < length xs = omega (arith, c.places-place-end.ensures.answer) in
     let l : k < length ys = omega arith in
-    c.lower.ensures.spans-after ∙ map_over_more f xs ys k x h c.loop-place.invariant (get_or_default ys k None x l)
+    c.lower.ensures.spans_after ∙ map_over_more f xs ys k x h c.loop-place.invariant (get_or_default ys k None x l)
 
 pub returns : goal.returns
 returns c =
     let xs = c.args.spans.now.entries.now in
     let h : length xs ≤ c.loop-place.place = omega (arith, c.places-place-end.ensures.answer) in
-    record { spans-after = c.loop-place.invariant ∙ map_part_all _ _ _ h }
+    record { spans_after = c.loop-place.invariant ∙ map_part_all _ _ _ h }

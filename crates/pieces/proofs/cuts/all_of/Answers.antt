@@ -8,14 +8,14 @@ use Rattle.pieces.proofs.cuts.all_of.Goals as goal
 
 pub returns-then-not-has : goal.returns-then-not-has
 returns-then-not-has c = record {
-  each-of-the-class = (
+  each_of_the_class = (
     (λ e. absurd (false≢true e)),
-    λ h. c.if-not-has.ensures.by-class ∙ All-get_or (Of c.args.class) c.args.s.now c.loop-b.b-index 0 c.loop-b-test.true h,
+    λ h. c.if-not-has.ensures.by_class ∙ All-get_or (Of c.args.class) c.args.s.now c.loop-b.b-index 0 c.loop-b-test.true h,
   );
 }
 
 pub loop-b-preserved : goal.loop-b-preserved
-loop-b-preserved c = All-more (Of c.args.class) c.args.s.now c.loop-b.b-index 0 c.loop-b-test.true c.loop-b.invariant (sym c.if-not-has.ensures.by-class)
+loop-b-preserved c = All-more (Of c.args.class) c.args.s.now c.loop-b.b-index 0 c.loop-b-test.true c.loop-b.invariant (sym c.if-not-has.ensures.by_class)
 
 pub returns : goal.returns
-returns c = record { each-of-the-class = ((λ e. subst (All (Of c.args.class)) (take_all c.loop-b.b-index c.args.s.now c.loop-b-test.false) c.loop-b.invariant), λ h. refl) }
+returns c = record { each_of_the_class = ((λ e. subst (All (Of c.args.class)) (take_all c.loop-b.b-index c.args.s.now c.loop-b-test.false) c.loop-b.invariant), λ h. refl) }

@@ -6,15 +6,15 @@ use Rattle.pieces.proofs.Forms.{number_none, number_found}
 use Rattle.pieces.proofs.Numbers.{value_short}
 use Rattle.pieces.proofs.cuts.front_number.Goals as goal
 
-pub returns-in-err-head : goal.returns-in-err-head
-returns-in-err-head c = rw c.from-residual.ensures (record { stands-in-front = number_none (min c.args.width 9) _ (subst (λ k. Front (exactly k Digit) c.args.s.now None) c.min.ensures c.in-err-head.ensures.stands-in-front) })
+pub returns-in_err-head : goal.returns-in_err-head
+returns-in_err-head c = rw c.from_residual.ensures (record { stands_in_front = number_none (min c.args.width 9) _ (subst (λ k. Front (exactly k Digit) c.args.s.now None) c.min.ensures c.in_err-head.ensures.stands_in_front) })
 
-pub overflow-cast-result : goal.overflow-cast-result
-overflow-cast-result c =
-    let f = c.in-ok-head.ensures.stands-in-front.1 in
-    omega (arith, value_short c.in-ok-head.head.now 9 f.1 (omega (arith, f.0, c.min.ensures)), c.number-of.ensures.as_written)
+pub overflow_cast-result : goal.overflow_cast-result
+overflow_cast-result c =
+    let f = c.in_ok-head.ensures.stands_in_front.1 in
+    omega (arith, value_short c.in_ok-head.head.now 9 f.1 (omega (arith, f.0, c.min.ensures)), c.number_of.ensures.as_written)
 
 pub returns : goal.returns
 returns c =
-    let f = subst (λ k. Front (exactly k Digit) c.args.s.now (Some (c.in-ok-head.head.now, c.in-ok-head.rest.now))) c.min.ensures c.in-ok-head.ensures.stands-in-front in
-    record { stands-in-front = number_found (min c.args.width 9) _ _ _ f _ c.number-of.ensures.as_written }
+    let f = subst (λ k. Front (exactly k Digit) c.args.s.now (Some (c.in_ok-head.head.now, c.in_ok-head.rest.now))) c.min.ensures c.in_ok-head.ensures.stands_in_front in
+    record { stands_in_front = number_found (min c.args.width 9) _ _ _ f _ c.number_of.ensures.as_written }

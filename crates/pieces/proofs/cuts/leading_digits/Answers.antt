@@ -5,4 +5,4 @@ use Rattle.pieces.specs.Notation.{Of}
 use Rattle.pieces.proofs.cuts.leading_digits.Goals as goal
 
 pub loop-i-preserved : goal.loop-i-preserved
-loop-i-preserved c = All-more (Of Digit) c.args.s.now c.loop-i.i 0 c.loop-i-test.true c.loop-i.invariant (sym c.if-not-has.ensures.by-class)
+loop-i-preserved c = All-more (Of Digit) c.args.s.now c.loop-i.i 0 c.loop-i-test.true c.loop-i.invariant (sym c.if-not-has.ensures.by_class)

@@ -7,14 +7,14 @@ use Rattle.pieces.specs.Notation.{Of}
 use Rattle.pieces.proofs.Numbers.{digit_range, value_more, value_front, value_nil}
 use Rattle.pieces.proofs.cuts.number_of.Goals as goal
 
-pub overflow-mul-n : goal.overflow-mul-n
-overflow-mul-n c = omega (arith, value_front c.args.s.now c.loop-b.b-index c.requires.digits c.loop-b-test.true c.requires.few, c.loop-b.invariant)
+pub overflow_mul-n : goal.overflow_mul-n
+overflow_mul-n c = omega (arith, value_front c.args.s.now c.loop-b.b-index c.requires.digits c.loop-b-test.true c.requires.few, c.loop-b.invariant)
 
-pub overflow-sub-b : goal.overflow-sub-b
-overflow-sub-b c = (digit_range (get_or c.args.s.now c.loop-b.b-index 0) (All-get_or (Of Digit) c.args.s.now c.loop-b.b-index 0 c.loop-b-test.true c.requires.digits)).0
+pub overflow_sub-b : goal.overflow_sub-b
+overflow_sub-b c = (digit_range (get_or c.args.s.now c.loop-b.b-index 0) (All-get_or (Of Digit) c.args.s.now c.loop-b.b-index 0 c.loop-b-test.true c.requires.digits)).0
 
-pub overflow-add-n : goal.overflow-add-n
-overflow-add-n c =
+pub overflow_add-n : goal.overflow_add-n
+overflow_add-n c =
     let d = digit_range (get_or c.args.s.now c.loop-b.b-index 0) (All-get_or (Of Digit) c.args.s.now c.loop-b.b-index 0 c.loop-b-test.true c.requires.digits) in
     omega (arith, value_front c.args.s.now c.loop-b.b-index c.requires.digits c.loop-b-test.true c.requires.few, c.loop-b.invariant, d)
 

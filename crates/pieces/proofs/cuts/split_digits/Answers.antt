@@ -4,4 +4,4 @@ use Rattle.pieces.proofs.Slices.{cut_of}
 use Rattle.pieces.proofs.cuts.split_digits.Goals as goal
 
 pub returns : goal.returns
-returns c = record { at-the-first-other = cut_of (Of Digit) _ _ _ _ c.leading-digits.ensures.digits c.leading-digits.ensures.stops c.split-at.ensures.front c.split-at.ensures.back }
+returns c = record { at_the_first_other = cut_of (Of Digit) _ _ _ _ c.leading_digits.ensures.digits c.leading_digits.ensures.stops c.split_at.ensures.front c.split_at.ensures.back }

@@ -27,13 +27,13 @@ returns-in-Arrival g c =
     let w = vec_items c.args.turn.now.output in
     let r = Arrival c.arrive.result in
     let goes : (h : History) (P U : ℕ) → Stands x P C U h s b → Stands x P C U (turned c.args.turn.now.request w r (w) ∷ h) (view c.arrive.new.self (g.H.Hold.cells c.arrive.new.hold)) (ledger c.arrive.new.book) =
-    λ h P U k. on_arrival x P C U (patient l) h s (view c.arrive.new.self (g.H.Hold.cells c.arrive.new.hold)) b (ledger c.arrive.new.book) c.args.turn.now.request w r k c.in-Arrival.frame c.in-Arrival.is (ap Arrival c.arrive.ensures.answer) c.arrive.ensures.line-and-hold-after c.arrive.ensures.book_after in
+    λ h P U k. on_arrival x P C U (patient l) h s (view c.arrive.new.self (g.H.Hold.cells c.arrive.new.hold)) b (ledger c.arrive.new.book) c.args.turn.now.request w r k c.in-Arrival.frame c.in-Arrival.is (ap Arrival c.arrive.ensures.answer) c.arrive.ensures.line_and_hold_after c.arrive.ensures.book_after in
     record {
       law = λ h P U k. stands_law x P C U _ _ _ (goes h P U k);
-      tells-this-call = goes;
-      set-up-unchanged = c.arrive.ensures.set-up-unchanged;
-      most-unchanged = c.arrive.ensures.most-unchanged;
-      request-unchanged = refl;
+      tells_this_call = goes;
+      set_up_unchanged = c.arrive.ensures.set_up_unchanged;
+      most_unchanged = c.arrive.ensures.most_unchanged;
+      request_unchanged = refl;
     }
 
 pub returns-in-Take : goal.returns-in-Take
@@ -44,18 +44,18 @@ returns-in-Take g c =
     let s = view l (g.H.Hold.cells c.args.hold.now) in
     let b = ledger c.args.book.now in
     let w = vec_items c.args.turn.now.output in
-    let value = c.deref-mut.ensures.value in
-    let len : length c.take.new.out ≡ c.args.turn.now.output.len = c.take.auto.out ∙ c.deref-mut.ensures.len in
+    let value = c.deref_mut.ensures.value in
+    let len : length c.take.new.out ≡ c.args.turn.now.output.len = c.take.auto.out ∙ c.deref_mut.ensures.len in
     let written = with_items_is c.args.turn.now.output c.take.new.out len in
     let r = Take c.take.result in
     let goes : (h : History) (P U : ℕ) → Stands x P C U h s b → Stands x P C U (turned c.args.turn.now.request w r (vec_items (Rattle.std.specs.Vec.with_items c.args.turn.now.output c.take.new.out)) ∷ h) (view c.take.new.self (g.H.Hold.cells c.take.new.hold)) (ledger c.take.new.book) =
-    λ h P U k. on_take x P C U (patient l) h s (view c.take.new.self (g.H.Hold.cells c.take.new.hold)) b (ledger c.take.new.book) c.args.turn.now.request w r k _ c.in-Take.is (ap Take (c.take.ensures.answer ∙ ap (take_result s (has b)) value)) (written ∙ c.take.ensures.output ∙ ap (take_output s) value) (c.take.ensures.line-and-hold-after ∙ ap (take_state x s) value) (c.take.ensures.book_after ∙ ap (take_ledger s b) value) in
+    λ h P U k. on_take x P C U (patient l) h s (view c.take.new.self (g.H.Hold.cells c.take.new.hold)) b (ledger c.take.new.book) c.args.turn.now.request w r k _ c.in-Take.is (ap Take (c.take.ensures.answer ∙ ap (take_result s (has b)) value)) (written ∙ c.take.ensures.output ∙ ap (take_output s) value) (c.take.ensures.line_and_hold_after ∙ ap (take_state x s) value) (c.take.ensures.book_after ∙ ap (take_ledger s b) value) in
     record {
       law = λ h P U k. stands_law x P C U _ _ _ (goes h P U k);
-      tells-this-call = goes;
-      set-up-unchanged = c.take.ensures.set-up-unchanged;
-      most-unchanged = c.take.ensures.most-unchanged;
-      request-unchanged = refl;
+      tells_this_call = goes;
+      set_up_unchanged = c.take.ensures.set_up_unchanged;
+      most_unchanged = c.take.ensures.most_unchanged;
+      request_unchanged = refl;
     }
 
 pub returns-in-Tick : goal.returns-in-Tick
@@ -71,10 +71,10 @@ returns-in-Tick g c =
     λ h P U k. on_tick x P C U (patient l) h s (view c.tick.new.self (g.H.Hold.cells c.args.hold.now)) b (b) c.args.turn.now.request w r k c.in-Tick.is (ap Tick c.tick.ensures.answer) c.tick.ensures.line_after refl in
     record {
       law = λ h P U k. stands_law x P C U _ _ _ (goes h P U k);
-      tells-this-call = goes;
-      set-up-unchanged = c.tick.ensures.set-up-unchanged;
-      most-unchanged = refl;
-      request-unchanged = refl;
+      tells_this_call = goes;
+      set_up_unchanged = c.tick.ensures.set_up_unchanged;
+      most_unchanged = refl;
+      request_unchanged = refl;
     }
 
 pub returns-in-Fetch : goal.returns-in-Fetch
@@ -85,18 +85,18 @@ returns-in-Fetch g c =
     let s = view l (g.H.Hold.cells c.args.hold.now) in
     let b = ledger c.args.book.now in
     let w = vec_items c.args.turn.now.output in
-    let value = c.deref-mut-in-Fetch.ensures.value in
-    let len : length c.fetch.new.out ≡ c.args.turn.now.output.len = c.fetch.auto.out ∙ c.deref-mut-in-Fetch.ensures.len in
+    let value = c.deref_mut-in-Fetch.ensures.value in
+    let len : length c.fetch.new.out ≡ c.args.turn.now.output.len = c.fetch.auto.out ∙ c.deref_mut-in-Fetch.ensures.len in
     let written = with_items_is c.args.turn.now.output c.fetch.new.out len in
     let r = Fetch c.fetch.result in
     let goes : (h : History) (P U : ℕ) → Stands x P C U h s b → Stands x P C U (turned c.args.turn.now.request w r (vec_items (Rattle.std.specs.Vec.with_items c.args.turn.now.output c.fetch.new.out)) ∷ h) (view c.fetch.new.self (g.H.Hold.cells c.args.hold.now)) (b) =
     λ h P U k. on_fetch x P C U (patient l) h s (view c.fetch.new.self (g.H.Hold.cells c.args.hold.now)) b (b) c.args.turn.now.request w r k _ c.in-Fetch.is (ap Fetch (c.fetch.ensures.answer ∙ ap (fetch_result s) value)) (written ∙ c.fetch.ensures.output ∙ ap (fetch_output x s) value) (c.fetch.ensures.line_after ∙ ap (fetch_state s) value) refl in
     record {
       law = λ h P U k. stands_law x P C U _ _ _ (goes h P U k);
-      tells-this-call = goes;
-      set-up-unchanged = c.fetch.ensures.set-up-unchanged;
-      most-unchanged = refl;
-      request-unchanged = refl;
+      tells_this_call = goes;
+      set_up_unchanged = c.fetch.ensures.set_up_unchanged;
+      most_unchanged = refl;
+      request_unchanged = refl;
     }
 
 pub returns-in-Status : goal.returns-in-Status
@@ -112,10 +112,10 @@ returns-in-Status g c =
     λ h P U k. on_status x P C U (patient l) h s (s) b (b) c.args.turn.now.request w r k c.in-Status.is (ap Status c.status.ensures.answer) refl refl in
     record {
       law = λ h P U k. stands_law x P C U _ _ _ (goes h P U k);
-      tells-this-call = goes;
-      set-up-unchanged = refl;
-      most-unchanged = refl;
-      request-unchanged = refl;
+      tells_this_call = goes;
+      set_up_unchanged = refl;
+      most_unchanged = refl;
+      request_unchanged = refl;
     }
 
 pub returns-in-Posting : goal.returns-in-Posting
@@ -126,11 +126,11 @@ returns-in-Posting g c =
     let s = view l (g.H.Hold.cells c.args.hold.now) in
     let b = ledger c.args.book.now in
     let w = vec_items c.args.turn.now.output in
-    let value = c.deref-mut-in-Posting.ensures.value in
-    let len : length c.post.new.out ≡ c.args.turn.now.output.len = c.post.auto.out ∙ c.deref-mut-in-Posting.ensures.len in
+    let value = c.deref_mut-in-Posting.ensures.value in
+    let len : length c.post.new.out ≡ c.args.turn.now.output.len = c.post.auto.out ∙ c.deref_mut-in-Posting.ensures.len in
     let written = with_items_is c.args.turn.now.output c.post.new.out len in
     let d = deal-of c.in-Posting.trade in
-    let posted = c.post.ensures.posted-or-refused in
+    let posted = c.post.ensures.posted_or_refused in
     let A : PostedAs x.member d b w c.post.result (ledger c.post.new.book) (vec_items (Rattle.std.specs.Vec.with_items c.args.turn.now.output c.post.new.out)) =
     subst (λ o. PostedAs x.member d b w c.post.result (ledger c.post.new.book) o) (sym written)
     (subst (λ v. PostedAs x.member d b v c.post.result (ledger c.post.new.book) c.post.new.out) value posted) in
@@ -139,8 +139,8 @@ returns-in-Posting g c =
     λ h P U k. on_posting x P C U (patient l) h s (s) b (ledger c.post.new.book) c.args.turn.now.request w r k c.in-Posting.trade c.post.result _ c.in-Posting.is refl refl A in
     record {
       law = λ h P U k. stands_law x P C U _ _ _ (goes h P U k);
-      tells-this-call = goes;
-      set-up-unchanged = refl;
-      most-unchanged = refl;
-      request-unchanged = refl;
+      tells_this_call = goes;
+      set_up_unchanged = refl;
+      most_unchanged = refl;
+      request_unchanged = refl;
     }

@@ -22,10 +22,10 @@ begun x P C U cs b (Err f) a e = tt
 pub returns : goal.returns
 returns g c =
     let m = g.H.Hold in
-    let s = c.set-up.ensures in
+    let s = c.set_up.ensures in
     record {
-      tells-no-call = begun c.args.settings (length (m.cells c.args.hold.now)) (m.most c.args.hold.now) (length (entries_of c.args.book.now)) (m.cells c.set-up.new.hold) c.set-up.new.book c.set-up.result s.line-at-the-first s.book-emptied;
-      in-range = s.in-range;
-      most-unchanged = s.most-unchanged;
-      refusal-changes-nothing = s.refusal-changes-nothing;
+      tells_no_call = begun c.args.settings (length (m.cells c.args.hold.now)) (m.most c.args.hold.now) (length (entries_of c.args.book.now)) (m.cells c.set_up.new.hold) c.set_up.new.book c.set_up.result s.line_at_the_first s.book_emptied;
+      in_range = s.in_range;
+      most_unchanged = s.most_unchanged;
+      refusal_changes_nothing = s.refusal_changes_nothing;
     }

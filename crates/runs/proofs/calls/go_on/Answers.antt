@@ -29,14 +29,14 @@ loop-turn-preserved g c =
     let lt = c.loop-turn-test.true in
     let len = c.loop-turn.auto.turns in
     let rest = c.loop-turn.invariant.2 in (
-      c.answer.ensures.set-up-unchanged ∙ c.loop-turn.invariant.0,
-      c.answer.ensures.most-unchanged ∙ c.loop-turn.invariant.1,
+      c.answer.ensures.set_up_unchanged ∙ c.loop-turn.invariant.0,
+      c.answer.ensures.most_unchanged ∙ c.loop-turn.invariant.1,
       rest_more bs ys i d a lt len rest,
       λ h P U k.
           subst (λ z. Tell c.args.line.now.settings P (m.most c.args.hold.now) U z c.answer.new.line (m.cells c.answer.new.hold) c.answer.new.book) (sym (told_more bs ys i d a lt len rest h))
           (one_more c.args.line.now.settings c.loop-turn.line.settings P (m.most c.args.hold.now) (m.most c.loop-turn.hold) U (told h (take i bs) (take i ys)) (event_of (get_or ys i d) a)
           c.loop-turn.line c.answer.new.line (m.cells c.loop-turn.hold) (m.cells c.answer.new.hold) c.loop-turn.book c.answer.new.book
-          c.loop-turn.invariant.0 c.loop-turn.invariant.1 c.answer.ensures.tells-this-call (c.loop-turn.invariant.3 h P U k)),
+          c.loop-turn.invariant.0 c.loop-turn.invariant.1 c.answer.ensures.tells_this_call (c.loop-turn.invariant.3 h P U k)),
     )
 
 pub returns : goal.returns
@@ -50,7 +50,7 @@ returns g c =
     (told_all h c.args.turns.now c.loop-turn.turns c.loop-turn.turn-index c.loop-turn.auto.turns c.loop-turn-test.false) (c.loop-turn.invariant.3 h P U k) in
     record {
       law = λ h P U k. stands_law x P C U _ _ _ (goes h P U k);
-      tells-these-calls = goes;
-      set-up-unchanged = c.loop-turn.invariant.0;
-      most-unchanged = c.loop-turn.invariant.1;
+      tells_these_calls = goes;
+      set_up_unchanged = c.loop-turn.invariant.0;
+      most_unchanged = c.loop-turn.invariant.1;
     }

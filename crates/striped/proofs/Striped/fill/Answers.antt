@@ -6,8 +6,8 @@ use Rattle.hold.proofs.Parts.{length_put}
 use Rattle.striped.proofs.Stripes.{set_take, cells_kept, short_kept}
 use Rattle.striped.proofs.Striped.fill.Goals as goal
 
-pub invariant-of-self : goal.invariant-of-self
-invariant-of-self c =
+pub invariant_of-self : goal.invariant_of-self
+invariant_of-self c =
     let p = c.args.self.now in
     let es = take p.places p.lens in
     let b = p.bytes.now in
@@ -20,8 +20,8 @@ invariant-of-self c =
     let wide : length p.lens ≡ 32 = p.wide in
     let le : length es ≡ p.places = length-take-le p.places p.lens (omega arith) in
     let within : k * 1023 + length f ≤ length b = omega arith in
-    let lb : length c.write-stripe.new.bytes ≡ length b =
-    ap length c.write-stripe.ensures.bytes_after ∙ length_put (k * 1023) (length f) b f within refl in
+    let lb : length c.write_stripe.new.bytes ≡ length b =
+    ap length c.write_stripe.ensures.bytes_after ∙ length_put (k * 1023) (length f) b f within refl in
     let flags = map is_some es in
     let lf : k < length flags = omega (arith, length-map es is_some) in
     let f64 : length flags ≤ 64 = omega (arith, length-map es is_some) in
@@ -33,7 +33,7 @@ invariant-of-self c =
           lb ∙ whole,
           (
             subst Short (sym e) (short_kept es k (length f) p.short short),
-            ((c.occupy.ensures.mask-after flags lf (f64, p.tied)).1 ∙ ap mask_of (sym (ap (map is_some) e ∙ map-set is_some es k (Some (length f)))), tt),
+            ((c.occupy.ensures.mask_after flags lf (f64, p.tied)).1 ∙ ap mask_of (sym (ap (map is_some) e ∙ map-set is_some es k (Some (length f)))), tt),
           ),
         ),
       ),
@@ -52,7 +52,7 @@ returns c =
     let wide : length p.lens ≡ 32 = p.wide in
     let le : length es ≡ p.places = length-take-le p.places p.lens (omega arith) in
     record {
-      cells-after = ap₂ cells_of (set_take p.places p.lens k (Some (length f))) c.write-stripe.ensures.bytes_after
+      cells_after = ap₂ cells_of (set_take p.places p.lens k (Some (length f))) c.write_stripe.ensures.bytes_after
           ∙ cells_kept es b f k (omega arith) (omega arith) c.requires.short p.short;
-      most-unchanged = refl;
+      most_unchanged = refl;
     }

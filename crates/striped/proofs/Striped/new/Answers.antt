@@ -6,8 +6,8 @@ use Rattle.striped.specs.Stripes.{Lengths, Short, cells_of}
 use Rattle.striped.proofs.Stripes.{cells_none, short_none}
 use Rattle.striped.proofs.Striped.new.Goals as goal
 
-pub invariant-of-result : goal.invariant-of-result
-invariant-of-result c =
+pub invariant_of-result : goal.invariant_of-result
+invariant_of-result c =
     let p = c.min-places.result in
     let few : p ≤ 32 = omega (arith, c.min-places.ensures) in
     let p64 : p ≤ 64 = omega arith in
@@ -21,7 +21,7 @@ invariant-of-result c =
           length-take-le (p * 1023 - 0) c.args.bytes.now whole ∙ (let z : p * 1023 - 0 ≡ p * 1023 = omega arith in z),
           (
             subst Short (sym e) (short_none p),
-            ((c.new.ensures.all-free p p64).1 ∙ sym (ap mask_of (ap (map is_some) e ∙ flags_none _ p)), tt),
+            ((c.new.ensures.all_free p p64).1 ∙ sym (ap mask_of (ap (map is_some) e ∙ flags_none _ p)), tt),
           ),
         ),
       ),
@@ -36,6 +36,6 @@ returns c =
     let b = take (p * 1023 - 0) c.args.bytes.now in
     let q : p ≡ min 32 (length c.args.bytes.now / 1023) = omega (arith, c.min-places.ensures) in
     record {
-      all-empty = ap (λ es. cells_of es b) e ∙ cells_none p b ∙ ap (λ n. replicate n None) q;
+      all_empty = ap (λ es. cells_of es b) e ∙ cells_none p b ∙ ap (λ n. replicate n None) q;
       most = ap (λ n. n * 1023) q;
     }

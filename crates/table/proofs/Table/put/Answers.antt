@@ -5,4 +5,4 @@ use Rattle.table.proofs.Table.put.Goals as goal
 
 pub returns-then-place-self : goal.returns-then-place-self
 returns-then-place-self g c =
-    record { answer = sym (le-ltb _ _ c.if-place-self.true); entries-after = sym (set_past _ _ _ c.if-place-self.true) }
+    record { answer = sym (le-ltb _ _ c.if-place-self.true); entries_after = sym (set_past _ _ _ c.if-place-self.true) }

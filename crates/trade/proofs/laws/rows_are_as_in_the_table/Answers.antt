@@ -17,4 +17,4 @@ as_printed KNote = refl
 as_printed KRate = refl
 
 pub returns : goal.returns
-returns c = record { notation-as-printed = as_printed }
+returns c = record { notation_as_printed = as_printed }

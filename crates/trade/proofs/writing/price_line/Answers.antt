@@ -3,10 +3,10 @@ use Rattle.trade.specs.declared.rows.Kind.TheVariants.{Price}
 use Rattle.trade.proofs.Writings.{line_grown}
 use Rattle.trade.proofs.writing.price_line.Goals as goal
 
-pub returns-in-err-check : goal.returns-in-err-check
-returns-in-err-check c =
-    let p = err_from_is_err_and c.from-residual.result c.from-residual.ensures.1 in
-    rw (p.1, p.2) c.in-err-check.ensures.as-its-contents-would
+pub returns-in_err-check : goal.returns-in_err-check
+returns-in_err-check c =
+    let p = err_from_is_err_and c.from_residual.result c.from_residual.ensures.1 in
+    rw (p.1, p.2) c.in_err-check.ensures.as_its_contents_would
 
 pub returns : goal.returns
-returns c = line_grown Price c.args.price.now c.args.out.now c.append.new.self c.write.new.out c.append-2.new.self c.in-ok-check.ensures.as-its-contents-would c.append.ensures.grown c.write.ensures.as-the-row-has-it c.append-2.ensures.grown
+returns c = line_grown Price c.args.price.now c.args.out.now c.append.new.self c.write.new.out c.append-2.new.self c.in_ok-check.ensures.as_its_contents_would c.append.ensures.grown c.write.ensures.as_the_row_has_it c.append-2.ensures.grown

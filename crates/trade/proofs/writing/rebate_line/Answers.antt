@@ -4,14 +4,14 @@ use Rattle.trade.specs.declared.rows.Kind.TheVariants.{Rebate}
 use Rattle.trade.proofs.Writings.{line_grown, lined_none, lined_some}
 use Rattle.trade.proofs.writing.rebate_line.Goals as goal
 
-pub returns-in-default : goal.returns-in-default
-returns-in-default c = lined_none Rebate c.args.rebate c.args.out.now c.in-default.is
+pub returns-in_default : goal.returns-in_default
+returns-in_default c = lined_none Rebate c.args.rebate c.args.out.now c.in_default.is
 
-pub returns-in-err-check : goal.returns-in-err-check
-returns-in-err-check c =
-    let p = err_from_is_err_and c.from-residual.result c.from-residual.ensures.1 in
-    rw (p.1, p.2) (lined_some Rebate c.args.rebate c.in-Some.given c.args.out.now c.args.out.now (Err _) c.in-Some.is c.in-err-check.ensures.as-its-contents-would)
+pub returns-in_err-check : goal.returns-in_err-check
+returns-in_err-check c =
+    let p = err_from_is_err_and c.from_residual.result c.from_residual.ensures.1 in
+    rw (p.1, p.2) (lined_some Rebate c.args.rebate c.in-Some.given c.args.out.now c.args.out.now (Err _) c.in-Some.is c.in_err-check.ensures.as_its_contents_would)
 
 pub returns : goal.returns
 returns c = lined_some Rebate c.args.rebate c.in-Some.given c.args.out.now c.append-2.new.self (Ok tt) c.in-Some.is
-    (line_grown Rebate c.in-Some.given c.args.out.now c.append.new.self c.write.new.out c.append-2.new.self c.in-ok-check.ensures.as-its-contents-would c.append.ensures.grown c.write.ensures.as-the-row-has-it c.append-2.ensures.grown)
+    (line_grown Rebate c.in-Some.given c.args.out.now c.append.new.self c.write.new.out c.append-2.new.self c.in_ok-check.ensures.as_its_contents_would c.append.ensures.grown c.write.ensures.as_the_row_has_it c.append-2.ensures.grown)

@@ -9,9 +9,9 @@ use Rattle.costs.proofs.brokerage.Brokerage.write.Goals as goal
 
 pub returns : goal.returns
 returns c = record {
-  as-the-row-has-it =
-      grown_as c.args.out.now c.append.new.self (print (opt amount) (option_map (signed_pieces 2) c.agreed.result) ++ (47 ∷ [] ++ c.letters-of.result)) _
-      (ap (λ a. print (opt amount) (option_map (signed_pieces 2) a) ++ (47 ∷ c.letters-of.result)) c.agreed.ensures ∙ ap (λ l. print (opt amount) (option_map (signed_pieces 2) (agreed_of c.args.self.now)) ++ (47 ∷ l)) c.letters-of.ensures)
-      (grown_on c.args.out.now c.write-amount.new.out c.append.new.self _ _ c.write-amount.ensures
-      (grown_on c.write-amount.new.out c.push.new.self c.append.new.self (47 ∷ []) _ c.push.ensures.grown c.append.ensures.grown));
+  as_the_row_has_it =
+      grown_as c.args.out.now c.append.new.self (print (opt amount) (option_map (signed_pieces 2) c.agreed.result) ++ (47 ∷ [] ++ c.letters_of.result)) _
+      (ap (λ a. print (opt amount) (option_map (signed_pieces 2) a) ++ (47 ∷ c.letters_of.result)) c.agreed.ensures ∙ ap (λ l. print (opt amount) (option_map (signed_pieces 2) (agreed_of c.args.self.now)) ++ (47 ∷ l)) c.letters_of.ensures)
+      (grown_on c.args.out.now c.write_amount.new.out c.append.new.self _ _ c.write_amount.ensures
+      (grown_on c.write_amount.new.out c.push.new.self c.append.new.self (47 ∷ []) _ c.push.ensures.grown c.append.ensures.grown));
 }

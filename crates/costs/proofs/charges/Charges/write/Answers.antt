@@ -9,9 +9,9 @@ use Rattle.costs.proofs.charges.Charges.write.Goals as goal
 
 pub returns-in-Some : goal.returns-in-Some
 returns-in-Some c = record {
-  as-the-row-has-it =
-      grown_as c.args.out.now c.write-commission.new.out (print (opt amount) (option_map (signed_pieces 2) c.args.self.now.expenses) ++ (47 ∷ print commission (commission_pieces c.in-Some.commission))) _
+  as_the_row_has_it =
+      grown_as c.args.out.now c.write_commission.new.out (print (opt amount) (option_map (signed_pieces 2) c.args.self.now.expenses) ++ (47 ∷ print commission (commission_pieces c.in-Some.commission))) _
       (ap (λ o. print (opt amount) (option_map (signed_pieces 2) c.args.self.now.expenses) ++ print (opt (lead (codes "/") commission)) (option_map commission_pieces o)) (sym c.in-Some.is))
-      (grown_on c.args.out.now c.write-amount.new.out c.write-commission.new.out _ _ c.write-amount.ensures
-      (grown_on c.write-amount.new.out c.push.new.self c.write-commission.new.out (47 ∷ []) _ c.push.ensures.grown c.write-commission.ensures));
+      (grown_on c.args.out.now c.write_amount.new.out c.write_commission.new.out _ _ c.write_amount.ensures
+      (grown_on c.write_amount.new.out c.push.new.self c.write_commission.new.out (47 ∷ []) _ c.push.ensures.grown c.write_commission.ensures));
 }

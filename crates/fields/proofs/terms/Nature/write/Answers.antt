@@ -9,16 +9,16 @@ use Rattle.fields.proofs.terms.Nature.write.Goals as goal
 
 pub returns-then-self : goal.returns-then-self
 returns-then-self c = record {
-  as-the-row-has-it =
-      grown_as c.args.out.now c.append.new.self (digits 3 c.number-of.result ++ codes "/BS") _
-      (ap (λ n. digits 3 n ++ codes "/BS") c.number-of.ensures ∙ ap (λ b. digits 3 (side_number c.args.self.now.side) ++ print code (mark b)) (sym c.if-self.true))
-      (grown_on c.args.out.now c.digits.new.self c.append.new.self (digits 3 c.number-of.result) (codes "/BS") c.digits.ensures.grown c.append.ensures.grown);
+  as_the_row_has_it =
+      grown_as c.args.out.now c.append.new.self (digits 3 c.number_of.result ++ codes "/BS") _
+      (ap (λ n. digits 3 n ++ codes "/BS") c.number_of.ensures ∙ ap (λ b. digits 3 (side_number c.args.self.now.side) ++ print code (mark b)) (sym c.if-self.true))
+      (grown_on c.args.out.now c.digits.new.self c.append.new.self (digits 3 c.number_of.result) (codes "/BS") c.digits.ensures.grown c.append.ensures.grown);
 }
 
 pub returns-else-self : goal.returns-else-self
 returns-else-self c = record {
-  as-the-row-has-it =
-      grown_as c.args.out.now c.digits.new.self (digits 3 c.number-of.result) _
-      (ap (digits 3) c.number-of.ensures ∙ sym (append-nil (digits 3 (side_number c.args.self.now.side))) ∙ ap (λ b. digits 3 (side_number c.args.self.now.side) ++ print code (mark b)) (sym c.if-self.false))
+  as_the_row_has_it =
+      grown_as c.args.out.now c.digits.new.self (digits 3 c.number_of.result) _
+      (ap (digits 3) c.number_of.ensures ∙ sym (append-nil (digits 3 (side_number c.args.self.now.side))) ∙ ap (λ b. digits 3 (side_number c.args.self.now.side) ++ print code (mark b)) (sym c.if-self.false))
       c.digits.ensures.grown;
 }

@@ -6,11 +6,11 @@ use Rattle.frame.proofs.session.Leaving.accept.Goals as goal
 pub returns-in-Ok : goal.returns-in-Ok
 returns-in-Ok c = record {
   answer = search rules;
-  accepts-the-confirmation-alone = accepts_it LoggedOff c.args.self.member c.args.frame.now _ (ap is_ok c.in-Ok.ensures.answer);
+  accepts_the_confirmation_alone = accepts_it LoggedOff c.args.self.member c.args.frame.now _ (ap is_ok c.in-Ok.ensures.answer);
 }
 
 pub returns-in-Err : goal.returns-in-Err
 returns-in-Err c = record {
   answer = search rules;
-  accepts-the-confirmation-alone = accepts_it LoggedOff c.args.self.member c.args.frame.now _ (ap is_ok c.in-Err.ensures.answer);
+  accepts_the_confirmation_alone = accepts_it LoggedOff c.args.self.member c.args.frame.now _ (ap is_ok c.in-Err.ensures.answer);
 }

@@ -8,5 +8,5 @@ returns c =
     let few : length p.spans.entries.now ≤ 64 = p.few in
     record {
       answer = c.places.ensures.answer ∙ sym (length_cells p.spans.entries.now p.bytes.now);
-      at-most-64 = omega (arith, c.places.ensures.answer);
+      at_most_64 = omega (arith, c.places.ensures.answer);
     }

@@ -18,6 +18,6 @@ returns c =
       copied = (
         c.min-n.ensures ∙ sym k,
         c.if-out-n.false,
-        copied c.copy-from-slice.new.self c.args.self.now.bytes c.args.out.now c.min-n.result c.copy-from-slice.ensures.after ∙ ap (λ n. take n c.args.self.now.bytes ++ drop c.min-n.result c.args.out.now) c.min-n.ensures,
+        copied c.copy_from_slice.new.self c.args.self.now.bytes c.args.out.now c.min-n.result c.copy_from_slice.ensures.after ∙ ap (λ n. take n c.args.self.now.bytes ++ drop c.min-n.result c.args.out.now) c.min-n.ensures,
       );
     }

@@ -6,17 +6,17 @@ use Rattle.pieces.proofs.scratch.Scratch.fraction.Goals as goal
 pub loop-k-init : goal.loop-k-init
 loop-k-init c = (c.requires.0, refl)
 
-pub nonzero-div-rest : goal.nonzero-div-rest
-nonzero-div-rest c = rw c.pow-unit.ensures (ten_pos _)
+pub nonzero_div-rest : goal.nonzero_div-rest
+nonzero_div-rest c = rw c.pow-unit.ensures (ten_pos _)
 
-pub overflow-cast-rest : goal.overflow-cast-rest
-overflow-cast-rest c = rw c.pow-unit.ensures (omega (arith, first_digit c.loop-k.k c.loop-k.rest c.loop-k-test.true c.loop-k.invariant.0))
+pub overflow_cast-rest : goal.overflow_cast-rest
+overflow_cast-rest c = rw c.pow-unit.ensures (omega (arith, first_digit c.loop-k.k c.loop-k.rest c.loop-k-test.true c.loop-k.invariant.0))
 
-pub overflow-add-rest : goal.overflow-add-rest
-overflow-add-rest c = rw c.pow-unit.ensures (omega (arith, first_digit c.loop-k.k c.loop-k.rest c.loop-k-test.true c.loop-k.invariant.0))
+pub overflow_add-rest : goal.overflow_add-rest
+overflow_add-rest c = rw c.pow-unit.ensures (omega (arith, first_digit c.loop-k.k c.loop-k.rest c.loop-k-test.true c.loop-k.invariant.0))
 
-pub nonzero-rem-rest : goal.nonzero-rem-rest
-nonzero-rem-rest c = rw c.pow-unit.ensures (ten_pos _)
+pub nonzero_rem-rest : goal.nonzero_rem-rest
+nonzero_rem-rest c = rw c.pow-unit.ensures (ten_pos _)
 
 pub loop-k-preserved : goal.loop-k-preserved
 loop-k-preserved c = (

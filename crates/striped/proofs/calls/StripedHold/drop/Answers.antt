@@ -5,8 +5,8 @@ use Rattle.striped.specs.Stripes.{Short, cells_of}
 use Rattle.striped.proofs.Stripes.{set_take, set_none, short_dropped, length_cells}
 use Rattle.striped.proofs.calls.StripedHold.drop.Goals as goal
 
-pub invariant-of-self : goal.invariant-of-self
-invariant-of-self c =
+pub invariant_of-self : goal.invariant_of-self
+invariant_of-self c =
     let p = c.args.self.now in
     let es = take p.places p.lens in
     let k = c.args.place in
@@ -21,7 +21,7 @@ invariant-of-self c =
           p.whole,
           (
             subst Short (sym e) (short_dropped es k p.short),
-            ((c.free.ensures.mask-after flags (f64, p.tied)).1 ∙ ap mask_of (sym (ap (map is_some) e ∙ map-set is_some es k None)), tt),
+            ((c.free.ensures.mask_after flags (f64, p.tied)).1 ∙ ap mask_of (sym (ap (map is_some) e ∙ map-set is_some es k None)), tt),
           ),
         ),
       ),
@@ -33,8 +33,8 @@ returns-then-place-self c =
     let es = take p.places p.lens in
     let b = p.bytes.now in
     record {
-      cells-after = ap (λ xs. cells_of xs b) (set_take p.places p.lens c.args.place None) ∙ set_none es b c.args.place;
-      most-unchanged = refl;
+      cells_after = ap (λ xs. cells_of xs b) (set_take p.places p.lens c.args.place None) ∙ set_none es b c.args.place;
+      most_unchanged = refl;
     }
 
 pub returns-else-place-self : goal.returns-else-place-self
@@ -43,4 +43,4 @@ returns-else-place-self c =
     let es = take p.places p.lens in
     let b = p.bytes.now in
     let h : length (cells_of es b) ≤ c.args.place = omega (arith, c.if-place-self.false, length_cells es b, length-take p.places p.lens) in
-    record { cells-after = sym (set_past (cells_of es b) c.args.place None h); most-unchanged = refl }
+    record { cells_after = sym (set_past (cells_of es b) c.args.place None h); most_unchanged = refl }

@@ -9,4 +9,4 @@ returns c =
     let few : p.places ≤ 32 = p.few in
     let wide : length p.lens ≡ 32 = p.wide in
     let le : length (take p.places p.lens) ≡ p.places = length-take-le p.places p.lens (omega arith) in
-    record { answer = sym (length_cells (take p.places p.lens) p.bytes.now ∙ le); at-most-64 = omega arith }
+    record { answer = sym (length_cells (take p.places p.lens) p.bytes.now ∙ le); at_most_64 = omega arith }

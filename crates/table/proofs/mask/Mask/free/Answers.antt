@@ -8,7 +8,7 @@ use Rattle.table.proofs.mask.Mask.free.Goals as goal
 
 pub returns-then-place-lt64 : goal.returns-then-place-lt64
 returns-then-place-lt64 c = record {
-  mask-after = λ places s. (
+  mask_after = λ places s. (
     omega (arith, length-set places c.args.place false),
     ap₂ (λ x y. bit_and x ((2 ^ 64 - 1) - y)) s.1 (one_shl c.args.place 64 c.if-place-lt64.true)
         ∙ and_at places c.args.place 64 c.if-place-lt64.true s.0,
@@ -17,7 +17,7 @@ returns-then-place-lt64 c = record {
 
 pub returns-else-place-lt64 : goal.returns-else-place-lt64
 returns-else-place-lt64 c = record {
-  mask-after = λ places s.
+  mask_after = λ places s.
       let h : length places ≤ c.args.place = omega arith in
       (omega (arith, length-set places c.args.place false), s.1 ∙ ap mask_of (sym (set_past places c.args.place false h)));
 }

@@ -6,9 +6,9 @@ use Rattle.table.proofs.mask.Mask.occupy.Goals as goal
 
 pub returns-then-place-lt64 : goal.returns-then-place-lt64
 returns-then-place-lt64 c = record {
-  mask-after = λ places h s. (
+  mask_after = λ places h s. (
     omega (arith, length-set places c.args.place true),
     ap₂ bit_or s.1 (one_shl c.args.place 64 c.if-place-lt64.true) ∙ or_at places c.args.place h,
   );
-  no-such-place = λ h. absurd (omega arith);
+  no_such_place = λ h. absurd (omega arith);
 }

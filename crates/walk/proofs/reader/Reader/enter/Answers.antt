@@ -3,8 +3,8 @@ use Rattle.walk.specs.Walk.{Absent}
 use Rattle.walk.proofs.Moves.{past, within}
 use Rattle.walk.proofs.reader.Reader.enter.Goals as goal
 
-pub overflow-add-self : goal.overflow-add-self
-overflow-add-self c =
+pub overflow_add-self : goal.overflow_add-self
+overflow_add-self c =
     let e = sym c.rest.ensures ∙ c.in-Some.ensures in
     let w = within c.args.self.now.text.now c.args.self.now.at c.args.label.now c.in-Some.field-0.now e in
     search rules
