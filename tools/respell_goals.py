@@ -13,7 +13,7 @@ import subprocess
 import sys
 
 WORDS = ["overflow-add", "overflow-sub", "overflow-mul", "overflow-shl", "overflow-shr", "overflow-cast", "overflow-step", "overflow-neg", "nonzero-div", "nonzero-rem", "slice-bounds", "offset-bounds", "in-ok", "in-err", "in-default", "invariant-of", "range-from", "range-to", "type-inv"]
-TOKEN = re.compile(r"[A-Za-z_◌][\w◌'\-]*")
+TOKEN = re.compile(r"[A-Za-z_◌][\w◌'\-·]*")
 STD = None
 
 
@@ -21,8 +21,8 @@ def std_names():
     global STD
     if STD is None:
         kit = os.path.dirname(subprocess.run(["rt", "doc"], capture_output=True, text=True).stdout.strip())
-        text = subprocess.run(["grep", "-rhoE", "--include=*.rt", r"fn [a-z]+_[a-z_0-9]*", kit + "/rattle/core/src", kit + "/rattle/std_alloc/src", kit + "/rattle/std/src"], capture_output=True, text=True).stdout
-        STD = {l[3:] for l in text.split("\n") if l}
+        text = subprocess.run(["grep", "-rhoE", "--include=*.rt", r"\b(fn|ensures|requires) [a-z]+_[a-z_0-9]*", kit + "/rattle/core/src", kit + "/rattle/std_alloc/src", kit + "/rattle/std/src"], capture_output=True, text=True).stdout
+        STD = {l.split()[1] for l in text.split("\n") if l}
     return STD
 
 
@@ -48,7 +48,7 @@ def names_of(crate):
 
 
 def turn_token(token, names):
-    parts = token.split("-")
+    parts = token.replace("·", "-").split("-")
     out, i = [], 0
     while i < len(parts):
         for j in range(len(parts), i, -1):

@@ -7,8 +7,8 @@ returns-in-66-2 c =
     let e = between_to_end c.args.text.now 9 (length c.args.text.now) (le_refl _) in
     search rules
 
-pub returns-in-66-2·2 : goal.returns-in-66-2·2
-returns-in-66-2·2 c =
+pub returns-in-66-2-2 : goal.returns-in-66-2-2
+returns-in-66-2-2 c =
     let e = between_to_end c.args.text.now 9 (length c.args.text.now) (le_refl _) in
     search rules
 
