@@ -49,8 +49,8 @@ pub trait Hold {
 
 // Empties every place.
 pub fn drop_all<H: Hold>(hold: &mut H)
-    ensures all_empty { cells hold.new ≡ replicate (length (cells hold.old)) None }
-    ensures most_unchanged { most hold.new ≡ most hold.old }
+    ensures all_empty { H.cells hold.new ≡ replicate (length (H.cells hold.old)) None }
+    ensures most_unchanged { H.most hold.new ≡ H.most hold.old }
 {
     for place in 0..hold.places() {
         hold.drop(place);
@@ -60,10 +60,10 @@ pub fn drop_all<H: Hold>(hold: &mut H)
 // Tries a place out: stores the frame, looks at it, copies it back and drops it. The frame's length as the hold told it,
 // if the frame came back whole; the hold is as before in any case.
 pub fn try_out<H: Hold>(hold: &mut H, place: usize, frame: &[u8], out: &mut [u8]) -> Option<usize>
-    ensures answer { result ≡ (if comes_back (cells hold.old) (most hold.old) place (length frame.now) (length out.old) then Some (length frame.now) else None) }
-    ensures output { out.new ≡ (if comes_back (cells hold.old) (most hold.old) place (length frame.now) (length out.old) then frame.now ++ drop (length frame.now) out.old else out.old) }
-    ensures cells_unchanged { cells hold.new ≡ cells hold.old }
-    ensures most_unchanged { most hold.new ≡ most hold.old }
+    ensures answer { result ≡ (if comes_back (H.cells hold.old) (H.most hold.old) place (length frame.now) (length out.old) then Some (length frame.now) else None) }
+    ensures output { out.new ≡ (if comes_back (H.cells hold.old) (H.most hold.old) place (length frame.now) (length out.old) then frame.now ++ drop (length frame.now) out.old else out.old) }
+    ensures cells_unchanged { H.cells hold.new ≡ H.cells hold.old }
+    ensures most_unchanged { H.most hold.new ≡ H.most hold.old }
 {
     if !hold.keep(place, frame) {
         return None;

@@ -21,8 +21,8 @@ pub struct Operation<'a> {
 }
 
 fn perform_one<H: Hold>(hold: &mut H, operation: &mut Operation<'_>)
-    ensures law { (h : History) → Law (length (cells hold.old)) (most hold.old) h (cells hold.old) → Law (length (cells hold.old)) (most hold.old) (event_of operation.new ∷ h) (cells hold.new) }
-    ensures most_unchanged { most hold.new ≡ most hold.old }
+    ensures law { (h : History) → Law (length (H.cells hold.old)) (H.most hold.old) h (H.cells hold.old) → Law (length (H.cells hold.old)) (H.most hold.old) (event_of operation.new ∷ h) (H.cells hold.new) }
+    ensures most_unchanged { H.most hold.new ≡ H.most hold.old }
     ensures task_unchanged { operation.new.task ≡ operation.old.task }
 {
     match operation.task {
@@ -36,8 +36,8 @@ fn perform_one<H: Hold>(hold: &mut H, operation: &mut Operation<'_>)
 
 // Empties the hold, performs the operations in their order, and sets in each whether it stored a frame.
 pub fn perform<H: Hold>(hold: &mut H, operations: &mut [Operation<'_>])
-    ensures law { Law (length (cells hold.old)) (most hold.old) (told [] operations.new) (cells hold.new) }
-    ensures most_unchanged { most hold.new ≡ most hold.old }
+    ensures law { Law (length (H.cells hold.old)) (H.most hold.old) (told [] operations.new) (H.cells hold.new) }
+    ensures most_unchanged { H.most hold.new ≡ H.most hold.old }
     ensures tasks_unchanged { map task_of operations.new ≡ map task_of operations.old }
 {
     drop_all(hold);

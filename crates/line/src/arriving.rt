@@ -27,9 +27,9 @@ impl Line {
 
     // Parks the frame of an early number, if the number is in reach and the hold has room.
     fn park<H: Hold>(&self, hold: &mut H, number: u32, frame: &[u8]) -> bool
-        ensures answer { result ≡ parks (most hold.old) (view self.now (cells hold.old)) number (length frame.now) }
-        ensures hold_after { cells hold.new ≡ (if result then slice_set (cells hold.old) (number % length (cells hold.old)) (Some frame.now) else cells hold.old) }
-        ensures most_unchanged { most hold.new ≡ most hold.old }
+        ensures answer { result ≡ parks (H.most hold.old) (view self.now (H.cells hold.old)) number (length frame.now) }
+        ensures hold_after { H.cells hold.new ≡ (if result then slice_set (H.cells hold.old) (number % length (H.cells hold.old)) (Some frame.now) else H.cells hold.old) }
+        ensures most_unchanged { H.most hold.new ≡ H.most hold.old }
     {
         let places = hold.places();
         if number as usize >= self.next.0 as usize + places {
@@ -49,12 +49,12 @@ impl Line {
         book: &mut Book<'_>,
         frame: &[u8],
     ) -> Result<Arrived, LineFault>
-        ensures answer { result ≡ arrival_result (most hold.old) (view self.old (cells hold.old)) (has (ledger book.old)) (judgement self.old.settings frame.now) frame.now }
-        ensures line_and_hold_after { view self.new (cells hold.new) ≡ arrival_state self.old.settings (most hold.old) (view self.old (cells hold.old)) (judgement self.old.settings frame.now) frame.now }
-        ensures book_after { ledger book.new ≡ arrival_ledger (view self.old (cells hold.old)) (ledger book.old) (judgement self.old.settings frame.now) }
+        ensures answer { result ≡ arrival_result (H.most hold.old) (view self.old (H.cells hold.old)) (has (ledger book.old)) (judgement self.old.settings frame.now) frame.now }
+        ensures line_and_hold_after { view self.new (H.cells hold.new) ≡ arrival_state self.old.settings (H.most hold.old) (view self.old (H.cells hold.old)) (judgement self.old.settings frame.now) frame.now }
+        ensures book_after { ledger book.new ≡ arrival_ledger (view self.old (H.cells hold.old)) (ledger book.old) (judgement self.old.settings frame.now) }
         ensures set_up_unchanged { self.new.settings ≡ self.old.settings }
-        ensures most_unchanged { most hold.new ≡ most hold.old }
-        ensures refusal_changes_nothing { OnErr result ((view self.new (cells hold.new) ≡ view self.old (cells hold.old)) × (ledger book.new ≡ ledger book.old)) }
+        ensures most_unchanged { H.most hold.new ≡ H.most hold.old }
+        ensures refusal_changes_nothing { OnErr result ((view self.new (H.cells hold.new) ≡ view self.old (H.cells hold.old)) × (ledger book.new ≡ ledger book.old)) }
     {
         let arrival = self.judge_frame(frame)?;
         let number = arrival.number;

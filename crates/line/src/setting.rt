@@ -37,10 +37,10 @@ pub fn set_up<H: Hold>(
     book: &mut Book<'_>,
 ) -> Result<Line, LineFault>
     ensures in_range { MatchResult result (λ _. Ranges settings) (λ e. (e ≡ Setting) × (Ranges settings → ⊥)) }
-    ensures line_at_the_first { IfOk result (λ line. (line.settings ≡ settings) × (view line (cells hold.new) ≡ start settings (length (cells hold.old)))) }
+    ensures line_at_the_first { IfOk result (λ line. (line.settings ≡ settings) × (view line (H.cells hold.new) ≡ start settings (length (H.cells hold.old)))) }
     ensures book_emptied { OnOk result (ledger book.new ≡ blank (length (entries_of book.old))) }
-    ensures most_unchanged { most hold.new ≡ most hold.old }
-    ensures refusal_changes_nothing { OnErr result ((cells hold.new ≡ cells hold.old) × (ledger book.new ≡ ledger book.old)) }
+    ensures most_unchanged { H.most hold.new ≡ H.most hold.old }
+    ensures refusal_changes_nothing { OnErr result ((H.cells hold.new ≡ H.cells hold.old) × (ledger book.new ≡ ledger book.old)) }
 {
     settings.check()?;
     drop_all(hold);

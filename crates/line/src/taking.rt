@@ -53,11 +53,11 @@ pub(crate) fn close_answered(book: &mut Book<'_>, answer: Option<Answer>) -> Opt
 
 // Copies the frame of a number out and empties its place, if it fits; its length in any case.
 fn hand_out<H: Hold>(hold: &mut H, number: u32, out: &mut [u8]) -> usize
-    requires { 0 < length (cells hold.old) }
-    ensures answer { result ≡ size (cell_at (cells hold.old) (number % length (cells hold.old))) }
-    ensures output { out.new ≡ copied (cell_at (cells hold.old) (number % length (cells hold.old))) out.old }
-    ensures hold_after { cells hold.new ≡ (if nat_le result (length out.old) then slice_set (cells hold.old) (number % length (cells hold.old)) None else cells hold.old) }
-    ensures most_unchanged { most hold.new ≡ most hold.old }
+    requires { 0 < length (H.cells hold.old) }
+    ensures answer { result ≡ size (cell_at (H.cells hold.old) (number % length (H.cells hold.old))) }
+    ensures output { out.new ≡ copied (cell_at (H.cells hold.old) (number % length (H.cells hold.old))) out.old }
+    ensures hold_after { H.cells hold.new ≡ (if nat_le result (length out.old) then slice_set (H.cells hold.old) (number % length (H.cells hold.old)) None else H.cells hold.old) }
+    ensures most_unchanged { H.most hold.new ≡ H.most hold.old }
 {
     let place = number as usize % hold.places();
     let size = match hold.look(place) {
@@ -80,13 +80,13 @@ impl Line {
         book: &mut Book<'_>,
         out: &mut [u8],
     ) -> Result<Delivery, LineFault>
-        ensures answer { result ≡ take_result (view self.old (cells hold.old)) (has (ledger book.old)) out.old }
-        ensures output { out.new ≡ take_output (view self.old (cells hold.old)) out.old }
-        ensures line_and_hold_after { view self.new (cells hold.new) ≡ take_state self.old.settings (view self.old (cells hold.old)) out.old }
-        ensures book_after { ledger book.new ≡ take_ledger (view self.old (cells hold.old)) (ledger book.old) out.old }
+        ensures answer { result ≡ take_result (view self.old (H.cells hold.old)) (has (ledger book.old)) out.old }
+        ensures output { out.new ≡ take_output (view self.old (H.cells hold.old)) out.old }
+        ensures line_and_hold_after { view self.new (H.cells hold.new) ≡ take_state self.old.settings (view self.old (H.cells hold.old)) out.old }
+        ensures book_after { ledger book.new ≡ take_ledger (view self.old (H.cells hold.old)) (ledger book.old) out.old }
         ensures set_up_unchanged { self.new.settings ≡ self.old.settings }
-        ensures most_unchanged { most hold.new ≡ most hold.old }
-        ensures refusal_changes_nothing { OnErr result ((view self.new (cells hold.new) ≡ view self.old (cells hold.old)) × (ledger book.new ≡ ledger book.old) × (out.new ≡ out.old)) }
+        ensures most_unchanged { H.most hold.new ≡ H.most hold.old }
+        ensures refusal_changes_nothing { OnErr result ((view self.new (H.cells hold.new) ≡ view self.old (H.cells hold.old)) × (ledger book.new ≡ ledger book.old) × (out.new ≡ out.old)) }
     {
         let number = self.next;
         if number.0 >= self.top.0 || !self.has_held(hold, number.0) {

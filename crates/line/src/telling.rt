@@ -12,7 +12,7 @@ use hold::Hold;
 impl Line {
     // Tells how the line stands. It borrows all three, so it changes none of them: a question never moves a wait.
     pub fn status<H: Hold>(&self, _session: &Open, hold: &H, book: &Book<'_>) -> Status
-        ensures answer { result ≡ status_of (view self.now (cells hold.now)) (ledger book.now) }
+        ensures answer { result ≡ status_of (view self.now (H.cells hold.now)) (ledger book.now) }
     {
         Status {
             next: self.next,

@@ -18,7 +18,7 @@ const RUN_PAST_FIRST: usize = 99;
 impl Line {
     // Whether the number is held: due or above, in reach of the hold, and its place is taken.
     pub(crate) fn has_held<H: Hold>(&self, hold: &H, number: u32) -> bool
-        ensures answer { result ≡ holds (view self.now (cells hold.now)) number }
+        ensures answer { result ≡ holds (view self.now (H.cells hold.now)) number }
     {
         let places = hold.places();
         if number < self.next.0 {
@@ -43,7 +43,7 @@ impl Line {
 
     // Begins a wait, keeps it running or ends it, as next, top and the hold have it. Where next moved, a wait is new.
     pub(crate) fn settle_wait<H: Hold>(&mut self, hold: &H, moved: bool)
-        ensures line_after { view self.new (cells hold.now) ≡ wait_settled self.old.settings moved (view self.old (cells hold.now)) }
+        ensures line_after { view self.new (H.cells hold.now) ≡ wait_settled self.old.settings moved (view self.old (H.cells hold.now)) }
         ensures set_up_unchanged { self.new.settings ≡ self.old.settings }
     {
         let due = self.next.0;
@@ -62,7 +62,7 @@ impl Line {
     // The last number of the run that is missing from next on: at most 100 numbers, all seen to be skipped, none of them held.
     fn last_of_run<H: Hold>(&self, hold: &H) -> u32
         requires { self.now.next.0 < self.now.top.0 }
-        ensures answer { result ≡ run_end (view self.now (cells hold.now)) }
+        ensures answer { result ≡ run_end (view self.now (H.cells hold.now)) }
         ensures from_next { self.now.next.0 ≤ result }
         ensures below_top { result < self.now.top.0 }
     {
@@ -79,8 +79,8 @@ impl Line {
 
     // One tick of the clock. The last tick of the last try reports the run missing, and next goes past it.
     pub fn tick<H: Hold>(&mut self, _session: &Open, hold: &H) -> Option<Range>
-        ensures answer { result ≡ tick_result self.old.settings (view self.old (cells hold.now)) }
-        ensures line_after { view self.new (cells hold.now) ≡ tick_state self.old.settings (view self.old (cells hold.now)) }
+        ensures answer { result ≡ tick_result self.old.settings (view self.old (H.cells hold.now)) }
+        ensures line_after { view self.new (H.cells hold.now) ≡ tick_state self.old.settings (view self.old (H.cells hold.now)) }
         ensures set_up_unchanged { self.new.settings ≡ self.old.settings }
     {
         if self.tries == 0 || self.top.0 <= self.next.0 {
@@ -113,11 +113,11 @@ impl Line {
         hold: &H,
         out: &mut [u8],
     ) -> Result<Range, LineFault>
-        ensures answer { result ≡ fetch_result (view self.old (cells hold.now)) out.old }
-        ensures output { out.new ≡ fetch_output self.old.settings (view self.old (cells hold.now)) out.old }
-        ensures line_after { view self.new (cells hold.now) ≡ fetch_state (view self.old (cells hold.now)) out.old }
+        ensures answer { result ≡ fetch_result (view self.old (H.cells hold.now)) out.old }
+        ensures output { out.new ≡ fetch_output self.old.settings (view self.old (H.cells hold.now)) out.old }
+        ensures line_after { view self.new (H.cells hold.now) ≡ fetch_state (view self.old (H.cells hold.now)) out.old }
         ensures set_up_unchanged { self.new.settings ≡ self.old.settings }
-        ensures refusal_changes_nothing { OnErr result ((view self.new (cells hold.now) ≡ view self.old (cells hold.now)) × (out.new ≡ out.old)) }
+        ensures refusal_changes_nothing { OnErr result ((view self.new (H.cells hold.now) ≡ view self.old (H.cells hold.now)) × (out.new ≡ out.old)) }
     {
         if !self.fetch_due || self.top.0 <= self.next.0 {
             return Err(LineFault::NoFetchDue);

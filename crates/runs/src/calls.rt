@@ -21,10 +21,10 @@ pub fn begin<H: Hold>(
     hold: &mut H,
     book: &mut Book<'_>,
 ) -> Result<Line, LineFault>
-    ensures tells_no_call { IfOk result (λ line. (line.settings ≡ settings) × Tell settings (length (cells hold.old)) (most hold.old) (length (entries_of book.old)) [] line (cells hold.new) book.new) }
+    ensures tells_no_call { IfOk result (λ line. (line.settings ≡ settings) × Tell settings (length (H.cells hold.old)) (H.most hold.old) (length (entries_of book.old)) [] line (H.cells hold.new) book.new) }
     ensures in_range { MatchResult result (λ _. Ranges settings) (λ e. (e ≡ Setting) × (Ranges settings → ⊥)) }
-    ensures most_unchanged { most hold.new ≡ most hold.old }
-    ensures refusal_changes_nothing { OnErr result ((cells hold.new ≡ cells hold.old) × (ledger book.new ≡ ledger book.old)) }
+    ensures most_unchanged { H.most hold.new ≡ H.most hold.old }
+    ensures refusal_changes_nothing { OnErr result ((H.cells hold.new ≡ H.cells hold.old) × (ledger book.new ≡ ledger book.old)) }
 {
     set_up(settings, hold, book)
 }
@@ -38,10 +38,10 @@ pub fn answer<H: Hold>(
     book: &mut Book<'_>,
     turn: &mut Turn<'_>,
 )
-    ensures law { (h : History) → (P U : ℕ) → Tell line.old.settings P (most hold.old) U h line.old (cells hold.old) book.old → Law line.old.settings P (most hold.old) U (event_of turn.old turn.new ∷ h) }
-    ensures tells_this_call { (h : History) → (P U : ℕ) → Tell line.old.settings P (most hold.old) U h line.old (cells hold.old) book.old → Tell line.old.settings P (most hold.old) U (event_of turn.old turn.new ∷ h) line.new (cells hold.new) book.new }
+    ensures law { (h : History) → (P U : ℕ) → Tell line.old.settings P (H.most hold.old) U h line.old (H.cells hold.old) book.old → Law line.old.settings P (H.most hold.old) U (event_of turn.old turn.new ∷ h) }
+    ensures tells_this_call { (h : History) → (P U : ℕ) → Tell line.old.settings P (H.most hold.old) U h line.old (H.cells hold.old) book.old → Tell line.old.settings P (H.most hold.old) U (event_of turn.old turn.new ∷ h) line.new (H.cells hold.new) book.new }
     ensures set_up_unchanged { line.new.settings ≡ line.old.settings }
-    ensures most_unchanged { most hold.new ≡ most hold.old }
+    ensures most_unchanged { H.most hold.new ≡ H.most hold.old }
     ensures request_unchanged { turn.new.request ≡ turn.old.request }
 {
     match turn.request {
@@ -70,10 +70,10 @@ pub fn go_on<H: Hold>(
     book: &mut Book<'_>,
     turns: &mut [Turn<'_>],
 )
-    ensures law { (h : History) → (P U : ℕ) → Tell line.old.settings P (most hold.old) U h line.old (cells hold.old) book.old → Law line.old.settings P (most hold.old) U (told h turns.old turns.new) }
-    ensures tells_these_calls { (h : History) → (P U : ℕ) → Tell line.old.settings P (most hold.old) U h line.old (cells hold.old) book.old → Tell line.old.settings P (most hold.old) U (told h turns.old turns.new) line.new (cells hold.new) book.new }
+    ensures law { (h : History) → (P U : ℕ) → Tell line.old.settings P (H.most hold.old) U h line.old (H.cells hold.old) book.old → Law line.old.settings P (H.most hold.old) U (told h turns.old turns.new) }
+    ensures tells_these_calls { (h : History) → (P U : ℕ) → Tell line.old.settings P (H.most hold.old) U h line.old (H.cells hold.old) book.old → Tell line.old.settings P (H.most hold.old) U (told h turns.old turns.new) line.new (H.cells hold.new) book.new }
     ensures set_up_unchanged { line.new.settings ≡ line.old.settings }
-    ensures most_unchanged { most hold.new ≡ most hold.old }
+    ensures most_unchanged { H.most hold.new ≡ H.most hold.old }
 {
     for turn in turns.iter_mut() {
         answer(session, line, hold, book, turn);
@@ -89,10 +89,10 @@ pub fn run<H: Hold>(
     book: &mut Book<'_>,
     turns: &mut [Turn<'_>],
 ) -> Result<Line, LineFault>
-    ensures law { OnOk result (Law settings (length (cells hold.old)) (most hold.old) (length (entries_of book.old)) (told [] turns.old turns.new)) }
-    ensures tells_these_calls { IfOk result (λ line. Tell settings (length (cells hold.old)) (most hold.old) (length (entries_of book.old)) (told [] turns.old turns.new) line (cells hold.new) book.new) }
+    ensures law { OnOk result (Law settings (length (H.cells hold.old)) (H.most hold.old) (length (entries_of book.old)) (told [] turns.old turns.new)) }
+    ensures tells_these_calls { IfOk result (λ line. Tell settings (length (H.cells hold.old)) (H.most hold.old) (length (entries_of book.old)) (told [] turns.old turns.new) line (H.cells hold.new) book.new) }
     ensures in_range { MatchResult result (λ _. Ranges settings) (λ e. (e ≡ Setting) × (Ranges settings → ⊥)) }
-    ensures refusal_changes_nothing { OnErr result ((cells hold.new ≡ cells hold.old) × (ledger book.new ≡ ledger book.old) × (turns.new ≡ turns.old)) }
+    ensures refusal_changes_nothing { OnErr result ((H.cells hold.new ≡ H.cells hold.old) × (ledger book.new ≡ ledger book.old) × (turns.new ≡ turns.old)) }
 {
     let mut line = begin(settings, hold, book)?;
     go_on(session, &mut line, hold, book, turns);
