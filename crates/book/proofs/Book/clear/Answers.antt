@@ -7,4 +7,7 @@ use Rattle.book.proofs.Book.clear.Goals as goal
 pub invariant_of-self : goal.invariant_of-self
 invariant_of-self c =
     let e : taken_places c.clear.new.self.entries.now ≡ 0 = ap taken_places c.clear.ensures.all_empty ∙ taken_empty OpenTrade _ in
-    (omega arith, (omega arith, tt))
+    record {
+      account = omega arith;
+      numbered = omega arith;
+    }

@@ -12,10 +12,16 @@ pub invariant_of-self : goal.invariant_of-self
 invariant_of-self c =
     let e = one_fewer (ledger c.args.self.now) c.args.answer.isn.0 c.places.result c.remove.new.self.entries.now c.places.ensures.answer c.remove.ensures.entries_after (sym c.if-not-has_open.ensures.answer) in
     let a = c.args.self.now.account in
-    (omega arith, (c.args.self.now.numbered, tt))
+    record {
+      account = omega arith;
+      numbered = c.args.self.now.numbered;
+    }
 
 pub invariant_of-self-in-Rejected : goal.invariant_of-self-in-Rejected
 invariant_of-self-in-Rejected c =
     let e = one_fewer (ledger c.args.self.now) c.args.answer.isn.0 c.places.result c.remove.new.self.entries.now c.places.ensures.answer c.remove.ensures.entries_after (sym c.if-not-has_open.ensures.answer) in
     let a = c.args.self.now.account in
-    (omega arith, (c.args.self.now.numbered, tt))
+    record {
+      account = omega arith;
+      numbered = c.args.self.now.numbered;
+    }

@@ -20,4 +20,7 @@ invariant_of-self c =
     ap taken_places (c.put.ensures.entries_after ∙ ap (λ i. set b.entries i (Some (record { isn = n }))) at)
     ∙ one_more b.entries (place_of b (b.posted + 1)) (record { isn = n }) (place_inside b (b.posted + 1) f.some) f.empty in
     let a = c.args.self.now.account in
-    (omega (arith, f.numbered), (omega (arith, f.numbered, f.below), tt))
+    record {
+      account = omega (arith, f.numbered);
+      numbered = omega (arith, f.numbered, f.below);
+    }

@@ -29,25 +29,16 @@ invariant_of-self c =
     let room : u + n ≤ length b = c.requires.room in
     let flags = map is_some es in
     let lf : k < length flags = omega (arith, length-map es is_some, c.requires.below) in
-    let f64 : length flags ≤ 64 = omega (arith, length-map es is_some) in (
-      omega arith,
-      (
-        omega arith,
-        (
-          omega arith,
-          (
-            let z : u + n ≡ total (set es k (Some v)) = omega arith in z ∙ ap total (sym e),
-            (
-              subst (Inside (u + n)) (sym e) (inside_kept es k u n v c.requires.below p.inside refl refl),
-              (
-                subst Apart (sym e) (apart_kept es k u n v c.requires.below p.inside refl p.apart),
-                ((c.occupy.ensures.mask_after flags lf (f64, p.tied)).1 ∙ ap mask_of (sym (ap (map is_some) e ∙ map-set is_some es k (Some v))), tt),
-              ),
-            ),
-          ),
-        ),
-      ),
-    )
+    let f64 : length flags ≤ 64 = omega (arith, length-map es is_some) in
+    record {
+      few = omega arith;
+      small = omega arith;
+      fits = omega arith;
+      full = let z : u + n ≡ total (set es k (Some v)) = omega arith in z ∙ ap total (sym e);
+      inside = subst (Inside (u + n)) (sym e) (inside_kept es k u n v c.requires.below p.inside refl refl);
+      apart = subst Apart (sym e) (apart_kept es k u n v c.requires.below p.inside refl p.apart);
+      tied = (c.occupy.ensures.mask_after flags lf (f64, p.tied)).1 ∙ ap mask_of (sym (ap (map is_some) e ∙ map-set is_some es k (Some v)));
+    }
 
 pub returns : goal.returns
 returns c =

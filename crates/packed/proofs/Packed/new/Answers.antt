@@ -15,25 +15,16 @@ invariant_of-result c =
     let l : length c.new.result.entries.now ≡ m = ap length z ∙ length-replicate m None in
     let lm : m ≡ min p (length c.args.spans.now) = length-take p c.args.spans.now in
     let lb : length (take (c.min-most.result - 0) c.args.bytes.now) ≡ min (c.min-most.result - 0) (length c.args.bytes.now) = length-take _ _ in
-    let m64 : m ≤ 64 = omega (arith, c.min-places.ensures) in (
-      omega arith,
-      (
-        omega (arith, c.min-most.ensures),
-        (
-          omega arith,
-          (
-            sym (ap total z ∙ total_none m),
-            (
-              subst (Inside 0) (sym z) (inside_none m),
-              (
-                subst Apart (sym z) (apart_none m),
-                ((c.new-2.ensures.all_free m m64).1 ∙ sym (ap mask_of (ap (map is_some) z ∙ flags_none Span m)), tt),
-              ),
-            ),
-          ),
-        ),
-      ),
-    )
+    let m64 : m ≤ 64 = omega (arith, c.min-places.ensures) in
+    record {
+      few = omega arith;
+      small = omega (arith, c.min-most.ensures);
+      fits = omega arith;
+      full = sym (ap total z ∙ total_none m);
+      inside = subst (Inside 0) (sym z) (inside_none m);
+      apart = subst Apart (sym z) (apart_none m);
+      tied = (c.new-2.ensures.all_free m m64).1 ∙ sym (ap mask_of (ap (map is_some) z ∙ flags_none Span m));
+    }
 
 pub returns : goal.returns
 returns c =

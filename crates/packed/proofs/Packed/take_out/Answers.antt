@@ -31,29 +31,17 @@ invariant_of-self c =
     let x : extent (get_or es k None) ≡ n = ap extent c.requires.there in
     let f = emptied_gap es k kb u c.args.span p.inside p.apart c.requires.there in
     let flags = map is_some es in
-    let f64 : length flags ≤ 64 = omega (arith, length-map es is_some) in (
-      omega arith,
-      (
-        omega arith,
-        (
-          omega arith,
-          (
-            let z : u - n ≡ total ds = omega arith in z ∙ sym (low_total ds (a + n) n) ∙ ap total (sym e),
-            (
-              subst (Inside (u - n)) (sym e) (low_inside ds a n u h f),
-              (
-                subst Apart (sym e) (low_apart ds a n u f (emptied_apart es k kb p.apart)),
-                (
-                  (c.free.ensures.mask_after flags (f64, p.tied)).1
-                      ∙ ap mask_of (sym (ap (map is_some) e ∙ low_flags ds (a + n) n ∙ map-set is_some es k None)),
-                  tt,
-                ),
-              ),
-            ),
-          ),
-        ),
-      ),
-    )
+    let f64 : length flags ≤ 64 = omega (arith, length-map es is_some) in
+    record {
+      few = omega arith;
+      small = omega arith;
+      fits = omega arith;
+      full = let z : u - n ≡ total ds = omega arith in z ∙ sym (low_total ds (a + n) n) ∙ ap total (sym e);
+      inside = subst (Inside (u - n)) (sym e) (low_inside ds a n u h f);
+      apart = subst Apart (sym e) (low_apart ds a n u f (emptied_apart es k kb p.apart));
+      tied = (c.free.ensures.mask_after flags (f64, p.tied)).1
+          ∙ ap mask_of (sym (ap (map is_some) e ∙ low_flags ds (a + n) n ∙ map-set is_some es k None));
+    }
 
 pub returns : goal.returns
 returns c =

@@ -25,19 +25,14 @@ invariant_of-self c =
     let flags = map is_some es in
     let lf : k < length flags = omega (arith, length-map es is_some) in
     let f64 : length flags ≤ 64 = omega (arith, length-map es is_some) in
-    let e = set_take p.places p.lens k (Some (length f)) in (
-      length-set p.lens k (Some (length f)) ∙ wide,
-      (
-        few,
-        (
-          lb ∙ whole,
-          (
-            subst Short (sym e) (short_kept es k (length f) p.short short),
-            ((c.occupy.ensures.mask_after flags lf (f64, p.tied)).1 ∙ ap mask_of (sym (ap (map is_some) e ∙ map-set is_some es k (Some (length f)))), tt),
-          ),
-        ),
-      ),
-    )
+    let e = set_take p.places p.lens k (Some (length f)) in
+    record {
+      wide = length-set p.lens k (Some (length f)) ∙ wide;
+      few = few;
+      whole = lb ∙ whole;
+      short = subst Short (sym e) (short_kept es k (length f) p.short short);
+      tied = (c.occupy.ensures.mask_after flags lf (f64, p.tied)).1 ∙ ap mask_of (sym (ap (map is_some) e ∙ map-set is_some es k (Some (length f))));
+    }
 
 pub returns : goal.returns
 returns c =

@@ -13,19 +13,14 @@ invariant_of-result c =
     let p64 : p ≤ 64 = omega arith in
     let whole : p * 1023 - 0 ≤ length c.args.bytes.now = omega (arith, c.min-places.ensures) in
     let nones : Lengths = replicate 32 None in
-    let e : take p nones ≡ replicate p None = take-replicate p 32 None few in (
-      refl,
-      (
-        few,
-        (
-          length-take-le (p * 1023 - 0) c.args.bytes.now whole ∙ (let z : p * 1023 - 0 ≡ p * 1023 = omega arith in z),
-          (
-            subst Short (sym e) (short_none p),
-            ((c.new.ensures.all_free p p64).1 ∙ sym (ap mask_of (ap (map is_some) e ∙ flags_none _ p)), tt),
-          ),
-        ),
-      ),
-    )
+    let e : take p nones ≡ replicate p None = take-replicate p 32 None few in
+    record {
+      wide = refl;
+      few = few;
+      whole = length-take-le (p * 1023 - 0) c.args.bytes.now whole ∙ (let z : p * 1023 - 0 ≡ p * 1023 = omega arith in z);
+      short = subst Short (sym e) (short_none p);
+      tied = (c.new.ensures.all_free p p64).1 ∙ sym (ap mask_of (ap (map is_some) e ∙ flags_none _ p));
+    }
 
 pub returns : goal.returns
 returns c =

@@ -13,19 +13,14 @@ invariant_of-self c =
     let few : p.places ≤ 32 = p.few in
     let flags = map is_some es in
     let f64 : length flags ≤ 64 = omega (arith, length-map es is_some, length-take p.places p.lens) in
-    let e = set_take p.places p.lens k None in (
-      length-set p.lens k None ∙ p.wide,
-      (
-        few,
-        (
-          p.whole,
-          (
-            subst Short (sym e) (short_dropped es k p.short),
-            ((c.free.ensures.mask_after flags (f64, p.tied)).1 ∙ ap mask_of (sym (ap (map is_some) e ∙ map-set is_some es k None)), tt),
-          ),
-        ),
-      ),
-    )
+    let e = set_take p.places p.lens k None in
+    record {
+      wide = length-set p.lens k None ∙ p.wide;
+      few = few;
+      whole = p.whole;
+      short = subst Short (sym e) (short_dropped es k p.short);
+      tied = (c.free.ensures.mask_after flags (f64, p.tied)).1 ∙ ap mask_of (sym (ap (map is_some) e ∙ map-set is_some es k None));
+    }
 
 pub returns-then-place-self : goal.returns-then-place-self
 returns-then-place-self c =
