@@ -2,14 +2,14 @@ use Rattle.std.proofs.Common.{rules}
 use Rattle.fields.proofs.Rows.{two}
 use Rattle.costs.proofs.brokerage.listed.Goals as goal
 
-pub returns-in-65 : goal.returns-in-65
-returns-in-65 c = search (rules, two)
+pub returns-in-AC : goal.returns-in-AC
+returns-in-AC c = search (rules, two)
 
-pub returns-in-70 : goal.returns-in-70
-returns-in-70 c = search (rules, two)
+pub returns-in-FC : goal.returns-in-FC
+returns-in-FC c = search (rules, two)
 
-pub returns-in-70-2 : goal.returns-in-70-2
-returns-in-70-2 c = search (rules, two)
+pub returns-in-FR : goal.returns-in-FR
+returns-in-FR c = search (rules, two)
 
-pub returns-in-72 : goal.returns-in-72
-returns-in-72 c = search (rules, two)
+pub returns-in-HC : goal.returns-in-HC
+returns-in-HC c = search (rules, two)
