@@ -85,7 +85,7 @@ pub fn decode_hex(heap: Global, word: Option<&[u8]>) -> Result<Option<Vec<u8>>, 
         return Ok(None);
     };
     let mut bytes = Vec::new(heap);
-    if word == b"-" {
+    if word == b"-".as_slice() {
         return Ok(Some(bytes));
     }
     if word.len() == 0 || word.len() % 2 != 0 {

@@ -2,20 +2,21 @@
 mod options;
 mod told;
 
-use anyhow::anyhow;
 use frame::arrival::read_message;
 use options::{Options, read_options};
 use std::io::{BufRead, BufReader, Read};
+use std::process::ExitCode;
 use std::{fs, io};
 use told::{Tally, tell_message, tell_refusal};
 
-fn main(rt: HostRuntime) -> anyhow::Result<()> {
+// What went wrong has been told on standard error, so a failure says no more.
+fn main(rt: HostRuntime) -> ExitCode {
     match run(&rt) {
-        Ok(true) => Ok(()),
-        Ok(false) => Err(anyhow!("told already")),
+        Ok(true) => ExitCode::SUCCESS,
+        Ok(false) => ExitCode::FAILURE,
         Err(e) => {
-            eprintln!(rt; "inspect: {e}")?;
-            Err(e.into())
+            let _told = eprintln!(rt; "inspect: {e}").is_ok();
+            ExitCode::FAILURE
         }
     }
 }

@@ -106,8 +106,8 @@ fn put<T: Copy>(slot: &mut Option<T>, value: Option<T>) -> bool {
 }
 
 fn put_yes(slot: &mut bool, value: &[u8]) -> bool {
-    *slot = value == b"yes";
-    value == b"yes" || value == b"no"
+    *slot = value == b"yes".as_slice();
+    value == b"yes".as_slice() || value == b"no".as_slice()
 }
 
 fn read_side(s: &[u8]) -> Option<Side> {

@@ -4,21 +4,22 @@ mod numbers;
 mod refused;
 mod told;
 
-use anyhow::anyhow;
 use made::make_trade;
 use refused::{tell_text_fault, tell_write_fault};
 use std::io::{Read, Write};
+use std::process::ExitCode;
 use std::{env, fs, io};
 use told::tell_trade;
 use trade::reading::{Trade, read_trade};
 
-fn main(rt: HostRuntime) -> anyhow::Result<()> {
+// What went wrong has been told on standard error, so a failure says no more.
+fn main(rt: HostRuntime) -> ExitCode {
     match run(&rt) {
-        Ok(true) => Ok(()),
-        Ok(false) => Err(anyhow!("told already")),
+        Ok(true) => ExitCode::SUCCESS,
+        Ok(false) => ExitCode::FAILURE,
         Err(e) => {
-            eprintln!(rt; "ticket: {e}")?;
-            Err(e.into())
+            let _told = eprintln!(rt; "ticket: {e}").is_ok();
+            ExitCode::FAILURE
         }
     }
 }
