@@ -1,10 +1,9 @@
 -- The book's places: which trade stands where, and how many are taken.
-use Rattle.std.proofs.Common.{◌≡◌, ℕ, zero, suc, ◌+◌, ◌%◌, ◌<◌, ◌≤◌, Bool, true, false, cond, ◌||◌, eqb, List, [], ◌∷◌, length, get_or, set, is_some, Some, None, Ok, Err, Option, Result, sym, refl, ap, ◌∙◌, subst, ⊎_elim, mod-lt, arith}
+use Rattle.std.proofs.Common.{◌≡◌, ℕ, ◌+◌, ◌%◌, ◌<◌, ◌≤◌, Bool, true, false, cond, eqb, List, length, get_or, set, is_some, Some, None, Ok, Err, Option, refl, ap, ◌∙◌, ⊎_elim, mod-lt, arith}
 use Rattle.std.proofs.lemmas.List.{get_or_past}
 use Rattle.std.proofs.lemmas.Bool.{eqb-true, eqb-false, leb-false, or_parts, both_ways, cases_lt}
 use Rattle.table.proofs.Places.{taken_set}
 use Rattle.table.specs.Places.{one_if_taken, taken_places}
-use Rattle.frame.specs.declared.faults.LineFault.{LineFault}
 use Rattle.frame.specs.declared.faults.LineFault.TheVariants.{NoBookPlace, UsedUp}
 use Rattle.frame.specs.declared.kinds.Isn.{Isn}
 use Rattle.book.specs.Ledger.{Ledger, entry_at, has, is_trade, next_isn, no_place, place_of, used_up, without}

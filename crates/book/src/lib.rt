@@ -1,4 +1,6 @@
 // The book: our posted trades that are still open, and how many were confirmed and rejected.
+#![tactic(auto)]
+
 ghost use Rattle.std.specs.Prelude.{◌≡◌, ◌+◌, ◌≤◌};
 ghost use Rattle.table.specs.Places.{taken_places};
 

@@ -5,7 +5,7 @@ use Rattle.notation.specs.declared.refusals.Why.{Why}
 use Rattle.notation.specs.declared.refusals.Why.TheVariants.{Notation as NotNotation, Code, Moment, Pieces}
 use Rattle.std.specs.Option.{option_map}
 use Rattle.pieces.specs.Cuts.{Front, Takes}
-use Rattle.pieces.specs.Notation.{Notation, Proper, print, Fit, Finds, exactly, dec, opt, both, lead, units}
+use Rattle.pieces.specs.Notation.{Notation, Proper, print, Fit, Finds, exactly, dec, opt, both, lead}
 use Rattle.pieces.specs.Rows.{Reads}
 use Rattle.pieces.specs.declared.decimals.Decimal.{Decimal}
 use Rattle.pieces.proofs.Commas.{decimal_lt}

@@ -1,13 +1,13 @@
 -- What may follow an amount: a code, or a commission.
 use Rattle.std.proofs.Common.{◌≡◌, ℕ, List, [], ◌∷◌, ◌++◌, length, Some, None, codes, Option, refl, subst, arith}
 use Rattle.notation.specs.declared.classes.Class.TheVariants.{Capital}
-use Rattle.std.specs.List.{AllByRecursion as All}
+use Rattle.std.specs.List.{AllByRecursion}
 use Rattle.std.proofs.lemmas.List.{append-nil}
 use Rattle.pieces.specs.Notation.{Of, Proper, print, opt, lead}
 use Rattle.fields.specs.Table.{code, commission}
 use Rattle.costs.specs.Amounts.{Signed, Follows}
 
-letters_follow : (c t : List ℕ) → length c ≡ 2 → All (Of Capital) c → Follows (47 ∷ (c ++ t))
+letters_follow : (c t : List ℕ) → length c ≡ 2 → AllByRecursion (Of Capital) c → Follows (47 ∷ (c ++ t))
 letters_follow [] t l a = absurd (omega arith)
 letters_follow (x ∷ []) t l a = absurd (omega arith)
 letters_follow (x ∷ y ∷ []) t l a = (refl, a.0, a.1.0)

@@ -2,10 +2,10 @@
 use Rattle.std.proofs.Common.{◌≡◌, ℕ, ◌+◌, ◌^◌, ◌<◌, ◌≤◌, Bool, List, [], ◌∷◌, ◌++◌, length, IfSome, Some, None, codes, Option, sym, refl, ap, ◌∙◌, subst, arith}
 use native.Mathlib.Nat.{pow-le-pow_right}
 use Rattle.std.specs.Option.{option_map}
-use Rattle.std.specs.List.{AllByRecursion as All}
+use Rattle.std.specs.List.{AllByRecursion}
 use Rattle.std.proofs.lemmas.List.{nil_from_length}
 use Rattle.pieces.specs.Cuts.{Cut, Stops, NotSlash}
-use Rattle.pieces.specs.Notation.{Value, Proper, print, Fit, Finds, Unambiguous, dec, opt, both, lead, stands}
+use Rattle.pieces.specs.Notation.{Value, Proper, print, Fit, Finds, Unambiguous, dec, opt, both, lead}
 use Rattle.pieces.proofs.Commas.{decimal_lt}
 use Rattle.pieces.proofs.Forms.{one_decimal, one_opt, one_lead, lead_some}
 use Rattle.pieces.proofs.Slices.{same_cut}
@@ -60,7 +60,7 @@ one_rebate v w h i e =
     let b = one_opt (lead (codes "/") bonus) (λ x y. lead_some 47 [] bonus x) (one_lead (codes "/") bonus (one_signed 2 3)) v.1 w.1 h.0.1 i.0.1 p.1 in
     λ n. (a n, b n)
   where
-    unslashed : (a : Option (List ℕ × List ℕ)) → Proper (opt (dec 7 2)) a → All NotSlash (print (opt (dec 7 2)) a)
+    unslashed : (a : Option (List ℕ × List ℕ)) → Proper (opt (dec 7 2)) a → AllByRecursion NotSlash (print (opt (dec 7 2)) a)
     unslashed None p = tt
     unslashed (Some a) p = no_slash 7 2 a p
 

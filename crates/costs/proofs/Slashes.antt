@@ -1,7 +1,7 @@
 -- Where amounts end: at the first slash, or at /N in front of a piece or the end.
-use Rattle.std.proofs.Common.{◌≡◌, ℕ, ◌+◌, ◌<◌, Bool, true, false, List, [], ◌∷◌, ◌++◌, length, Some, None, Option, sym, refl, ap, ◌∙◌, subst, arith}
+use Rattle.std.proofs.Common.{◌≡◌, ℕ, ◌<◌, Bool, true, false, List, [], ◌∷◌, ◌++◌, length, Some, None, Option, sym, refl, ap, ◌∙◌, subst, arith}
 use Rattle.notation.specs.declared.classes.Class.TheVariants.{Digit}
-use Rattle.std.specs.List.{AllByRecursion as All}
+use Rattle.std.specs.List.{AllByRecursion}
 use Rattle.std.proofs.ByRecursion.{All-append, All-weaker}
 use Rattle.std.proofs.lemmas.List.{append_assoc, append-nil, length-append}
 use Rattle.pieces.specs.Cuts.{Cut, Stops, NotSlash, Takes}
@@ -12,7 +12,7 @@ use Rattle.pieces.proofs.Forms.{one_decimal}
 use Rattle.fields.specs.Table.{minus, amount}
 use Rattle.costs.specs.Amounts.{Signed, Follows, TakesAmount}
 
-pub no_slash : (p q : ℕ) (v : List ℕ × List ℕ) → Proper (dec p q) v → All NotSlash (print (dec p q) v)
+pub no_slash : (p q : ℕ) (v : List ℕ × List ℕ) → Proper (dec p q) v → AllByRecursion NotSlash (print (dec p q) v)
 no_slash p q v h =
     let plain = All-weaker (Of Digit) NotSlash (λ b d e. omega (arith, digit_range b d, e)) in
     All-append NotSlash v.0 (44 ∷ v.1) (plain v.0 h.0) ((λ e. omega (arith, e)), plain v.1 h.1)

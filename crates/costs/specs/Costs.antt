@@ -4,7 +4,7 @@ use Rattle.notation.specs.declared.refusals.Why.{Why}
 use Rattle.notation.specs.declared.refusals.Why.TheVariants.{Notation as NotNotation, Code, Moment, Pieces}
 use Rattle.std.specs.Option.{option_map}
 use Rattle.pieces.specs.Notation.{Value, Fit, Finds, units, opt, lead}
-use Rattle.pieces.specs.Plain.{plain, signed, negative}
+use Rattle.pieces.specs.Plain.{plain, signed}
 use Rattle.pieces.specs.Rows.{Row, Always}
 use Rattle.fields.specs.Table.{rebate_form, brokerage_form, charges_form, commission}
 use Rattle.costs.specs.Amounts.{Signed, sizes, signed_of, signed_pieces, Measures}

@@ -1,7 +1,7 @@
 -- The laws of field 31P: one answer, one form, and what the form keeps to.
 use Rattle.std.specs.Prelude.{◌≡◌, ℕ, ◌≤◌, List, length, None, Ok, Option, Result, ◌≢◌}
 use Rattle.notation.specs.declared.refusals.Why.{Why}
-use Rattle.std.specs.List.{AllByRecursion as All}
+use Rattle.std.specs.List.{AllByRecursion}
 use Rattle.pieces.specs.Rows.{Reads, Judged, text_of}
 use Rattle.detail.specs.Detail.{row31p}
 use Rattle.detail.specs.declared.detail.Detail.{Detail}
@@ -30,4 +30,4 @@ AtMost38 = (t : Detail) → Judged row31p t None → length (text_of row31p t) �
 
 -- and no carriage return, so that the field ends where it should
 abbrev pub NoReturn : Type 0
-NoReturn = (t : Detail) → Judged row31p t None → All (λ b. b ≢ 13) (text_of row31p t)
+NoReturn = (t : Detail) → Judged row31p t None → AllByRecursion (λ b. b ≢ 13) (text_of row31p t)

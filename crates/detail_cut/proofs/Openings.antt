@@ -4,7 +4,7 @@ use Rattle.notation.specs.Classes.{is_digit, is_capital}
 use Rattle.notation.specs.Digits.{digits}
 use Rattle.notation.specs.declared.classes.Class.TheVariants.{Digit, Capital}
 use Rattle.notation.proofs.Digits.{all_digits}
-use Rattle.std.specs.List.{AllByRecursion as All}
+use Rattle.std.specs.List.{AllByRecursion}
 use Rattle.std.proofs.lemmas.Bool.{cond-true, cond-false}
 use Rattle.std.proofs.lemmas.Bool.Decides.{nat_tests}
 use Rattle.pieces.specs.Notation.{Of, Proper, print, exactly, sign}
@@ -28,7 +28,7 @@ run_digits zero n w = omega arith
 run_digits (suc k) n w = omega (arith, run_digit (n / 10 ^ k % 10 + 48) (digits k n ++ w) (all_digits (suc k) n).0, run_digits k n w)
 
 -- the count of leading digits
-pub run_of : (s : List ℕ) (n : ℕ) → n ≤ length s → All (Of Digit) (take n s) → (n < length s → Of Digit (get_or s n 0) → ⊥) → run s ≡ n
+pub run_of : (s : List ℕ) (n : ℕ) → n ≤ length s → AllByRecursion (Of Digit) (take n s) → (n < length s → Of Digit (get_or s n 0) → ⊥) → run s ≡ n
 run_of [] n l a h = omega (arith, run_end)
 run_of (b ∷ s) zero l a h = run_other b s (negated (is_digit b) (h (omega arith)))
   where

@@ -2,7 +2,7 @@
 use Rattle.std.proofs.Common.{◌≡◌, ℕ, suc, ◌+◌, ◌≤◌, List, [], ◌++◌, length, take, drop, Some, None, codes, Option, sym, refl, ap, ◌∙◌, subst, arith, take-append-drop}
 use Rattle.notation.specs.Digits.{value}
 use Rattle.notation.specs.declared.classes.Class.TheVariants.{Digit, Capital}
-use Rattle.std.specs.List.{AllByRecursion as All}
+use Rattle.std.specs.List.{AllByRecursion}
 use Rattle.std.proofs.ByRecursion.{All-take}
 use Rattle.std.proofs.lemmas.List.{take-take, length-take-le, length-append}
 use Rattle.pieces.specs.Cuts.{Front, Takes}
@@ -73,13 +73,13 @@ module _ (k r : ℕ) (R : ℕ → Type 0) (s : List ℕ) (e : run s ≡ r) where
   pub run_left : ((n : ℕ) → R n → r ≡ k + n → ⊥) → Takes (opt (number k)) (λ w. R (run w)) s None s
   run_left never = none_taken (number k) (λ w. R (run w)) s (λ y w h q nx. never (run w) nx (sym e ∙ ap run q ∙ run_digits k y w))
 
-  stands_there : k ≤ r → r ≤ length s → All (Of Digit) (take r s) → Front (number k) s None → ⊥
+  stands_there : k ≤ r → r ≤ length s → AllByRecursion (Of Digit) (take r s) → Front (number k) s None → ⊥
   stands_there l m d none =
-      let a : All (Of Digit) (take k s) = subst (All (Of Digit)) (take-take k r s l) (All-take (Of Digit) k (take r s) d) in
+      let a : AllByRecursion (Of Digit) (take k s) = subst (AllByRecursion (Of Digit)) (take-take k r s l) (All-take (Of Digit) k (take r s) d) in
       let h = number_found k s (take k s) (drop k s) (sym (take-append-drop k s), (length-take-le k s (omega arith), a)) (value (take k s)) refl in
       none (value (take k s)) (drop k s) h.1 h.0
 
-  pub run_taken : k ≤ r → r ≤ length s → All (Of Digit) (take r s) → (R r → ⊥) → (x : Option ℕ) (t : List ℕ) → Tried (number k) s x t → Takes (opt (number k)) (λ w. R (run w)) s x t
+  pub run_taken : k ≤ r → r ≤ length s → AllByRecursion (Of Digit) (take r s) → (R r → ⊥) → (x : Option ℕ) (t : List ℕ) → Tried (number k) s x t → Takes (opt (number k)) (λ w. R (run w)) s x t
   run_taken l m d never None t q = absurd (stands_there l m d q.0)
   run_taken l m d never (Some y) t q = taken (number k) (λ w. R (run w)) s k (sized_number k) y t q (λ nx. never (subst R e nx))
 

@@ -1,5 +1,5 @@
 -- What contents are seen to mean, before codes and the agreement of pieces are looked at.
-use Rattle.std.specs.Prelude.{◌≡◌, ℕ, List, Some, None, codes, Option}
+use Rattle.std.specs.Prelude.{◌≡◌, ℕ, List, Some, None, Option}
 use Rattle.notation.specs.declared.classes.Class.TheVariants.{Capital}
 use Rattle.pieces.specs.Notation.{Value, Fit, Finds, both, exactly, dec, units}
 use Rattle.pieces.specs.Rows.{Row}

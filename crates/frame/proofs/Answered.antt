@@ -1,11 +1,11 @@
 -- The text of an answer is read as the rules say, and in no other way.
-use Rattle.std.proofs.Common.{◌≡◌, ℕ, zero, suc, ◌+◌, ◌-◌, ◌<◌, ◌≤◌, Bool, true, false, cond, not, ◌&&◌, eqb, leb, ◌⊎◌, List, [], ◌∷◌, ◌++◌, length, get_or, take, drop, replicate, is_some, Some, None, Ok, Err, Option, Result, sym, refl, ap, ◌∙◌, subst, inl, inr, ⊎_elim, arith, length-append, length-drop, get_or-drop, drop-drop}
+use Rattle.std.proofs.Common.{◌≡◌, ℕ, zero, suc, ◌-◌, ◌≤◌, Bool, true, false, cond, not, ◌&&◌, eqb, leb, List, [], ◌∷◌, ◌++◌, length, get_or, drop, replicate, is_some, Some, None, Ok, Err, Option, Result, sym, refl, ap, ◌∙◌, subst, arith, length-drop, get_or-drop, drop-drop}
 use lib.ListN.{length-replicate}
 use Rattle.frame.proofs.Checks.{le_gives, le_is, eq_gives, eq_is, ne_gives, ne_is, clash, both_true}
 use Rattle.frame.proofs.Firsts.{follows_is, follows_gives, follows_join, follows_back}
-use Rattle.frame.specs.Forms.{Spot, meets, Right, Follows, closed, first_wrong}
-use Rattle.frame.specs.Forms.Spot.{digit, capital, figure, just}
-use Rattle.frame.specs.Texts.{fault, confirmation, reason, rejection, Is, isn_of, Front, Confirms, Rejects, Unlisted, answer, Says, follows, front_right, is_trade_number, is_reason, answer_of}
+use Rattle.frame.specs.Forms.{Spot, Follows, closed, first_wrong}
+use Rattle.frame.specs.Forms.Spot.{figure, just}
+use Rattle.frame.specs.Texts.{fault, reason, isn_of, Front, Confirms, Rejects, Unlisted, answer, Says, follows, front_right, is_trade_number, is_reason, answer_of}
 use Rattle.frame.specs.Texts.Says.{confirms, rejects, unlisted, unlike}
 use Rattle.frame.specs.declared.texts.Answer.{Answer}
 use Rattle.frame.specs.declared.texts.Verdict.TheVariants.{Confirmed, Rejected}

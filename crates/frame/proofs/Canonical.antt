@@ -1,11 +1,11 @@
 -- A well-formed header is byte for byte what its values are written as.
-use Rattle.std.proofs.Common.{◌≡◌, ℕ, ◌+◌, ◌-◌, ◌<◌, ◌≤◌, Bool, true, false, ◌||◌, eqb, List, [], ◌∷◌, ◌++◌, length, get_or, take, drop, replicate, None, Ok, Err, sym, refl, ap, ◌∙◌, subst, ⊎_elim, arith, length-append, get_or-drop, drop-drop}
+use Rattle.std.proofs.Common.{◌≡◌, ℕ, ◌+◌, ◌<◌, ◌≤◌, Bool, true, false, ◌||◌, eqb, List, [], ◌∷◌, ◌++◌, length, get_or, take, drop, Ok, Err, sym, ap, ◌∙◌, subst, ⊎_elim, arith, length-append, get_or-drop, drop-drop}
 use lib.ListN.{length-replicate}
 use lib.Seq.{get_or_at}
 use Rattle.frame.proofs.Checks.{eq_gives, two_ways, cond_true, cond_false}
 use Rattle.frame.proofs.Firsts.{follows_gives, follows_front, follows_back}
 use Rattle.frame.proofs.Numbers.{none_wrong}
-use Rattle.frame.specs.Forms.{Spot, meets, Right, Follows, run, closed, first_wrong}
+use Rattle.frame.specs.Forms.{Spot, meets, Follows, run, closed, first_wrong}
 use Rattle.frame.specs.Forms.Spot.{digit, mark, just}
 use Rattle.frame.specs.Headers.{header, header_of, head_bytes, fit_size, mark_of, read_header, unless, WrittenAs}
 use Rattle.frame.specs.Kinds.{mark_byte}
@@ -17,8 +17,7 @@ use Rattle.notation.specs.Classes.{is_digit}
 use Rattle.notation.specs.Digits.{value, digits}
 use Rattle.std.proofs.ByRecursion.{All-from_get_or}
 use Rattle.std.proofs.lemmas.List.{get_or_append_left, get_or-replicate, get_or-take, length-take-le, drop_more, take-append-drop}
-use Rattle.std.proofs.lemmas.Bool.Decides.{nat_tests}
-use Rattle.std.specs.List.{AllByRecursion as All}
+use Rattle.std.specs.List.{AllByRecursion}
 
 -- one field: its digits, and the comma behind them
 comma_spot : (w : ℕ) → get_or (closed w) w digit ≡ just 44
@@ -32,7 +31,7 @@ digit_spot w j h =
 long_closed : (w : ℕ) → length (closed w) ≡ w + 1
 long_closed w = length-append (run w) (just 44 ∷ []) ∙ ap (λ (n : ℕ). n + 1) (length-replicate w digit)
 
-all_run : (w : ℕ) (s : List ℕ) → Follows (closed w) s → w ≤ length s → All (λ b. is_digit b ≡ true) (take w s)
+all_run : (w : ℕ) (s : List ℕ) → Follows (closed w) s → w ≤ length s → AllByRecursion (λ b. is_digit b ≡ true) (take w s)
 all_run w s f h =
     let t : length (take w s) ≡ w = length-take-le w s h in
     let c : length (closed w) ≡ w + 1 = long_closed w in

@@ -1,10 +1,10 @@
 -- A session accepts exactly the confirmation that it waits for.
-use Rattle.std.proofs.Common.{◌≡◌, ℕ, ◌<◌, ◌≤◌, Bool, true, false, cond, ◌&&◌, eqb, ltb, leb, List, [], ◌++◌, length, drop, is_ok, None, Ok, Err, Option, Result, sym, refl, ap, ◌∙◌, subst, ⊎_elim, append-nil, arith, length-drop}
+use Rattle.std.proofs.Common.{◌≡◌, ℕ, ◌≤◌, Bool, true, false, cond, ◌&&◌, eqb, List, [], ◌++◌, length, drop, is_ok, None, Ok, Err, Result, sym, refl, ap, ◌∙◌, append-nil, arith, length-drop}
 use Rattle.frame.proofs.Canonical.{header_is}
-use Rattle.frame.proofs.Checks.{eq_gives, eq_is, both_true, two_ways, cond_true, cond_false}
+use Rattle.frame.proofs.Checks.{eq_gives, eq_is, both_true, cond_true}
 use Rattle.frame.proofs.ReadBack.{reads_back, length_frame}
 use Rattle.frame.specs.Arrivals.{and_then, raised}
-use Rattle.frame.specs.Headers.{head_bytes, read_header, WrittenAs}
+use Rattle.frame.specs.Headers.{head_bytes, read_header}
 use Rattle.frame.specs.Kinds.{code}
 use Rattle.frame.specs.Sessions.{confirms, confirmed, confirmation, AcceptsIt}
 use Rattle.frame.specs.Writing.{frame_text, header_given, unwritable}

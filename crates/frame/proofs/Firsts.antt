@@ -1,5 +1,5 @@
 -- The search for the first wrong byte finds it, and there is only one.
-use Rattle.std.proofs.Common.{◌≡◌, ℕ, zero, suc, ◌+◌, ◌-◌, ◌<◌, ◌≤◌, Bool, true, false, cond, ◌&&◌, ltb, ◌⊎◌, List, [], ◌∷◌, ◌++◌, length, get_or, drop, Some, None, Option, sym, refl, ap, ◌∙◌, subst, inl, inr, ⊎_elim, arith, length-append, length-drop, get_or-drop}
+use Rattle.std.proofs.Common.{◌≡◌, ℕ, zero, suc, ◌+◌, ◌-◌, ◌<◌, ◌≤◌, Bool, true, false, ◌&&◌, ltb, List, [], ◌∷◌, ◌++◌, length, get_or, drop, Some, None, sym, ap, ◌∙◌, subst, ⊎_elim, arith, length-append, length-drop, get_or-drop}
 use Rattle.frame.proofs.Checks.{both_true, two_ways, cond_true, cond_false, option_ways}
 use Rattle.frame.specs.Forms.{Spot, meets, Right, FirstWrong, Follows, wrong_from, first_wrong}
 use Rattle.frame.specs.Forms.Spot.{digit}

@@ -1,12 +1,10 @@
 -- The header read field by field is the header read as one form.
-use Rattle.std.proofs.Common.{◌≡◌, ℕ, ◌+◌, ◌<◌, ◌≤◌, List, [], ◌∷◌, ◌++◌, length, get_or, take, drop, Some, None, Ok, Err, Option, Result, sym, refl, ap, ◌∙◌, arith}
+use Rattle.std.proofs.Common.{◌≡◌, ℕ, ◌≤◌, List, [], ◌∷◌, ◌++◌, length, Ok, Err, sym, refl, ap, ◌∙◌, arith}
 use Rattle.frame.proofs.Numbers.{none_wrong, pass, stop}
 use Rattle.frame.specs.Forms.{Spot, wrong_from, first_wrong, closed}
 use Rattle.frame.specs.Forms.Spot.{mark, just}
 use Rattle.frame.specs.Headers.{header, header_of, read_header, read_number, read_mark, unless}
 use Rattle.frame.specs.declared.faults.FrameFault.{FrameFault}
-use Rattle.frame.specs.declared.faults.FrameFault.TheVariants.{Malformed}
-use Rattle.frame.specs.declared.header.Header.{Header}
 use Rattle.frame.specs.declared.kinds.Mark.{Mark}
 use Rattle.std.proofs.lemmas.Bool.Decides.{nat_tests}
 

@@ -1,16 +1,16 @@
 -- The judge answers as the rules say, and in no other way.
-use Rattle.std.proofs.Common.{◌≡◌, ℕ, zero, suc, ◌+◌, ◌-◌, ◌^◌, ◌<◌, ◌≤◌, min, Bool, true, false, cond, ◌&&◌, eqb, leb, ◌⊎◌, List, [], ◌∷◌, length, drop, replicate, Some, None, Ok, Err, Option, Result, sym, refl, ap, ◌∙◌, subst, inl, inr, ⊎_elim, arith, length-drop}
+use Rattle.std.proofs.Common.{◌≡◌, ℕ, ◌+◌, ◌-◌, ◌<◌, ◌≤◌, true, false, ◌&&◌, eqb, leb, List, [], ◌∷◌, length, drop, replicate, Some, None, Ok, Err, Option, Result, sym, refl, ap, ◌∙◌, subst, ⊎_elim, arith, length-drop}
 use lib.ListN.{length-replicate}
 use Rattle.frame.proofs.Answered.{answer_only, answer_right}
 use Rattle.frame.proofs.Checks.{le_gives, eq_gives, eq_is, ne_gives, ne_is, clash, both_true, two_ways, cond_true, cond_false, option_ways}
 use Rattle.frame.proofs.Firsts.{first_is, first_gives, follows_is, follows_gives}
 use Rattle.frame.proofs.Headings.{sized}
-use Rattle.frame.specs.Arrivals.{and_then, raised, arriving, if_arrives, contents_of, with_contents, message_of, arrival_of, for_line, judged}
+use Rattle.frame.specs.Arrivals.{and_then, raised, arriving, if_arrives, contents_of, with_contents, message_of, for_line, judged}
 use Rattle.frame.specs.Faults.{in_frame_field, on, line_refusal}
-use Rattle.frame.specs.Forms.{FirstWrong, Follows, first_wrong}
+use Rattle.frame.specs.Forms.{FirstWrong, first_wrong}
 use Rattle.frame.specs.Forms.Spot.{plain}
 use Rattle.frame.specs.Headers.{fit_size, header, header_of, read_header, text_of, unless}
-use Rattle.frame.specs.Judging.{Sized, Headed, Arrives, TrueLength, Contents, Sound, InCircle, arrived, Judged, told}
+use Rattle.frame.specs.Judging.{Sized, Headed, Arrives, TrueLength, Contents, Sound, InCircle, Judged, told}
 use Rattle.frame.specs.Judging.Contents.{answers_trade, faulty_answer, plain_text, empty_text, wrong_byte}
 use Rattle.frame.specs.Judging.Judged.{bad_size, malformed, not_taken, untrue_length, faulty_text, other_member, outside_circle, taken}
 use Rattle.frame.specs.Kinds.{code, kinds, among, kind_of, arrives, answers}
@@ -21,7 +21,7 @@ use Rattle.frame.specs.declared.arrival.Arrival.{Arrival}
 use Rattle.frame.specs.declared.arrival.Circle.{Circle}
 use Rattle.frame.specs.declared.arrival.Message.{Message}
 use Rattle.frame.specs.declared.faults.FrameFault.{FrameFault}
-use Rattle.frame.specs.declared.faults.FrameFault.TheVariants.{Size, Malformed, NotTaken, Length, InText}
+use Rattle.frame.specs.declared.faults.FrameFault.TheVariants.{Size, Malformed, NotTaken, Length}
 use Rattle.frame.specs.declared.faults.LineFault.{LineFault}
 use Rattle.frame.specs.declared.faults.LineFault.TheVariants.{InFrame, Member, Number}
 use Rattle.frame.specs.declared.header.Header.{Header}
@@ -31,9 +31,9 @@ use Rattle.frame.specs.declared.texts.Answer.{Answer as Said}
 use Rattle.frame.specs.declared.write.Heading.{Heading}
 use Rattle.notation.specs.Refusals.{refused, number_of}
 use Rattle.notation.specs.declared.refusals.FieldFault.{FieldFault}
-use Rattle.notation.specs.declared.refusals.Layer.TheVariants.{Frame, Field, Line}
+use Rattle.notation.specs.declared.refusals.Layer.TheVariants.{Field}
 use Rattle.notation.specs.declared.refusals.Refusal.{Refusal}
-use Rattle.notation.specs.declared.refusals.Why.TheVariants.{Notation, Code}
+use Rattle.notation.specs.declared.refusals.Why.TheVariants.{Notation}
 use Rattle.std.proofs.lemmas.Bool.Decides.{nat_tests}
 
 -- the header

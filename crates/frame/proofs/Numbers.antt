@@ -1,5 +1,5 @@
 -- Reading digits, and one field of them: how far the search has come, and the value so far.
-use Rattle.std.proofs.Common.{◌≡◌, ℕ, ◌+◌, ◌-◌, ◌*◌, ◌^◌, ◌<◌, ◌≤◌, true, false, eqb, List, [], ◌∷◌, ◌++◌, length, get_or, take, drop, Some, None, Ok, Err, Option, Result, sym, refl, ap, ◌∙◌, subst, pow-suc, add-one, arith, length-drop, get_or-drop}
+use Rattle.std.proofs.Common.{◌≡◌, ℕ, ◌+◌, ◌-◌, ◌*◌, ◌^◌, ◌<◌, ◌≤◌, true, false, List, [], ◌∷◌, ◌++◌, length, get_or, take, drop, Some, None, Ok, Err, Option, sym, refl, ap, ◌∙◌, pow-suc, add-one, arith, length-drop, get_or-drop}
 use lib.ListN.{length-replicate}
 use Rattle.frame.proofs.Forms.{wrong_here, wrong_past, wrong_first, wrong_rest, replicate_more}
 use Rattle.frame.specs.Forms.{Spot, wrong_from, run, closed}

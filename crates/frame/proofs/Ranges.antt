@@ -1,7 +1,7 @@
 -- The two numbers of a range are read one after the other, and a written range reads back.
-use Rattle.std.proofs.Common.{◌≡◌, ℕ, ◌+◌, ◌/◌, ◌%◌, ◌<◌, ◌≤◌, true, cond, ◌&&◌, eqb, leb, List, [], ◌∷◌, ◌++◌, length, take, drop, Some, None, Ok, Err, sym, refl, ap, ◌∙◌, arith}
+use Rattle.std.proofs.Common.{◌≡◌, ℕ, ◌≤◌, true, cond, ◌&&◌, leb, List, [], ◌∷◌, ◌++◌, take, drop, None, Ok, Err, sym, refl, ap, ◌∙◌, arith}
 use Rattle.frame.proofs.Forms.{Fits, fits_append, fits_none}
-use Rattle.frame.proofs.Numbers.{none_wrong, some_wrong, pass, stop}
+use Rattle.frame.proofs.Numbers.{none_wrong, pass, stop}
 use Rattle.frame.proofs.ReadBack.{fits_closed, fits_run}
 use Rattle.frame.specs.Forms.{run, closed, first_wrong, wrong_from}
 use Rattle.frame.specs.Headers.{read_digits, read_number, unless}

@@ -1,16 +1,14 @@
 -- A frame that was written reads back as what was given.
-use Rattle.std.proofs.Common.{◌≡◌, ℕ, zero, suc, ◌+◌, ◌-◌, ◌^◌, ◌<◌, ◌≤◌, Bool, true, false, cond, ◌&&◌, eqb, ltb, leb, List, [], ◌∷◌, ◌++◌, length, get_or, take, drop, Some, None, Ok, Err, Option, sym, refl, ap, ◌∙◌, arith, length-append}
+use Rattle.std.proofs.Common.{◌≡◌, ℕ, zero, suc, ◌+◌, ◌<◌, ◌≤◌, Bool, true, cond, eqb, List, [], ◌∷◌, ◌++◌, length, take, drop, None, Ok, Err, refl, ap, ◌∙◌, arith, length-append}
 use Rattle.frame.proofs.Forms.{Fits, fits_append, fits_none}
 use Rattle.frame.proofs.Headings.{sized}
 use Rattle.frame.proofs.Written.{length_head}
-use Rattle.frame.specs.Forms.{run, closed, first_wrong, wrong_from, meets}
+use Rattle.frame.specs.Forms.{run, closed, first_wrong, meets}
 use Rattle.frame.specs.Forms.Spot.{mark, just}
 use Rattle.frame.specs.Headers.{head_bytes, header, header_of, mark_of, read_header, text_of, unless}
 use Rattle.frame.specs.Kinds.{code, mark_byte}
 use Rattle.frame.specs.Writing.{head_text, frame_text, unwritable, header_given, ReadsBack}
-use Rattle.frame.specs.declared.faults.FrameFault.{FrameFault}
 use Rattle.frame.specs.declared.faults.FrameFault.TheVariants.{Length}
-use Rattle.frame.specs.declared.header.Header.{Header}
 use Rattle.frame.specs.declared.kinds.Kind.{Kind}
 use Rattle.frame.specs.declared.kinds.Kind.TheVariants.{LogOn, LoggedOn, LogOff, LoggedOff, Retrieval, Trade, ContractNote, FundExecution, Execution, Event, Inquiry, Answer, OwnUse, NoteOrders}
 use Rattle.frame.specs.declared.kinds.Mark.{Mark}
@@ -21,17 +19,17 @@ use Rattle.notation.specs.Classes.{is_digit}
 use Rattle.notation.specs.Digits.{digits, value}
 use Rattle.std.proofs.lemmas.List.{drop_at, take_at}
 use Rattle.std.proofs.lemmas.Bool.Decides.{nat_tests}
-use Rattle.std.specs.List.{AllByRecursion as All}
+use Rattle.std.specs.List.{AllByRecursion}
 
 -- digits as they are written follow their form
-pub fits_run : (w : ℕ) (ds : List ℕ) → length ds ≡ w → All (λ b. is_digit b ≡ true) ds → Fits (run w) ds
+pub fits_run : (w : ℕ) (ds : List ℕ) → length ds ≡ w → AllByRecursion (λ b. is_digit b ≡ true) ds → Fits (run w) ds
 fits_run zero [] l a = tt
 fits_run zero (d ∷ ds) l a = absurd (omega arith)
 fits_run (suc w) [] l a = absurd (omega arith)
 fits_run (suc w) (d ∷ ds) l a = (a.0, fits_run w ds (omega arith) a.1)
 
 -- a field as it is written follows its form
-pub fits_closed : (w : ℕ) (ds : List ℕ) → length ds ≡ w → All (λ b. is_digit b ≡ true) ds → Fits (closed w) (ds ++ 44 ∷ [])
+pub fits_closed : (w : ℕ) (ds : List ℕ) → length ds ≡ w → AllByRecursion (λ b. is_digit b ≡ true) ds → Fits (closed w) (ds ++ 44 ∷ [])
 fits_closed w ds l a = fits_append (run w) (just 44 ∷ []) ds (44 ∷ []) (fits_run w ds l a) (refl, tt)
 
 fits_mark : (m : Mark) → meets mark (mark_byte m) ≡ true

@@ -1,7 +1,7 @@
 -- Seven tests together say that a reason is followed byte by byte.
-use Rattle.std.proofs.Common.{◌≡◌, ℕ, ◌+◌, Bool, true, false, not, ◌&&◌, eqb, List, [], ◌∷◌, length, get_or, is_some, sym, refl, ap, ◌∙◌, arith}
+use Rattle.std.proofs.Common.{◌≡◌, ℕ, Bool, true, false, not, ◌&&◌, eqb, List, [], ◌∷◌, length, get_or, is_some, sym, refl, ap, ◌∙◌, arith}
 use Rattle.frame.proofs.Forms.{follows_more}
-use Rattle.frame.specs.Forms.{wrong_from, meets}
+use Rattle.frame.specs.Forms.{wrong_from}
 use Rattle.frame.specs.Forms.Spot.{digit, capital}
 use Rattle.frame.specs.Texts.{is_reason, reason, follows}
 use Rattle.notation.specs.Classes.{is_digit, is_capital}

@@ -1,5 +1,5 @@
 -- A frame laid into an output: its header, its text, and the bytes behind it.
-use Rattle.std.proofs.Common.{◌≡◌, ℕ, ◌+◌, ◌-◌, ◌/◌, ◌%◌, List, [], ◌∷◌, ◌++◌, length, take, drop, sym, refl, ap, ◌∙◌, append_assoc, div-one, arith}
+use Rattle.std.proofs.Common.{◌≡◌, ℕ, ◌+◌, ◌-◌, ◌/◌, ◌%◌, List, ◌++◌, length, take, drop, sym, refl, ap, ◌∙◌, append_assoc, div-one, arith}
 use borrow.Rule.Slice.PartMut.{put_mid, post_of}
 use Rattle.frame.specs.Headers.{head_bytes}
 use Rattle.frame.specs.Writing.{head_text}

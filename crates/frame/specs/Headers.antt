@@ -1,5 +1,5 @@
 -- The header of a frame: five fields, each closed by a comma, and the text behind them.
-use Rattle.std.specs.Prelude.{◌≡◌, ℕ, ◌+◌, ◌<◌, ◌≤◌, Bool, cond, ◌&&◌, List, [], ◌∷◌, ◌++◌, length, take, drop, Some, None, Ok, Err, Option, Result, ◌==◌, nat_le, slice_index}
+use Rattle.std.specs.Prelude.{◌≡◌, ℕ, ◌+◌, Bool, cond, ◌&&◌, List, [], ◌∷◌, ◌++◌, length, take, drop, Some, None, Ok, Err, Option, Result, ◌==◌, nat_le, slice_index}
 use Rattle.frame.specs.Forms.{Spot, run, closed, first_wrong, wrong_from}
 use Rattle.frame.specs.Forms.Spot.{mark, just}
 use Rattle.frame.specs.Kinds.{mark_byte}

@@ -1,6 +1,6 @@
 -- The texts of numbered messages: the answer to a trade (596), the plain text of all others, and the range of a retrieval (020).
-use Rattle.std.specs.Prelude.{◌≡◌, ℕ, ◌+◌, ◌-◌, ◌≤◌, Bool, cond, not, ◌&&◌, List, [], ◌∷◌, ◌++◌, length, take, drop, replicate, is_some, Some, None, Ok, Err, Option, Result, ◌==◌, ◌≢◌, nat_le, slice_index, slice_index_or}
-use Rattle.frame.specs.Forms.{Spot, Follows, run, closed, first_wrong, wrong_from}
+use Rattle.std.specs.Prelude.{◌≡◌, ℕ, ◌≤◌, Bool, cond, not, ◌&&◌, List, [], ◌∷◌, ◌++◌, length, take, drop, replicate, is_some, Some, None, Ok, Err, Option, Result, ◌==◌, ◌≢◌, nat_le, slice_index, slice_index_or}
+use Rattle.frame.specs.Forms.{Spot, Follows, run, closed, first_wrong}
 use Rattle.frame.specs.Forms.Spot.{digit, capital, figure, plain, just}
 use Rattle.frame.specs.declared.texts.Answer.{Answer}
 use Rattle.frame.specs.Headers.{unless}

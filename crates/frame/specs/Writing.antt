@@ -1,5 +1,5 @@
 -- How a frame is written.
-use Rattle.std.specs.Prelude.{◌≡◌, ℕ, ◌+◌, true, cond, List, [], ◌∷◌, ◌++◌, length, drop, Some, None, Ok, Err, Option, Result, nat_lt}
+use Rattle.std.specs.Prelude.{◌≡◌, ℕ, true, cond, List, ◌++◌, length, drop, Some, None, Ok, Err, Option, Result, nat_lt}
 use Rattle.frame.specs.Arrivals.{contents_of, judged}
 use Rattle.frame.specs.Headers.{head_bytes, read_header, text_of}
 use Rattle.frame.specs.Judging.{InCircle}

@@ -1,4 +1,6 @@
 // Frames as they travel between a member and the exchange: headers, texts of answers and retrievals, the judge of an arrival, and sessions.
+#![tactic(auto)]
+
 pub mod arrival;
 pub mod faults;
 pub mod header;

@@ -1,4 +1,6 @@
 // Holds: where frames that arrive early wait for their turn.
+#![tactic(auto)]
+
 ghost use Rattle.std.specs.Prelude.{◌≡◌, ℕ, ◌≤◌, ◌++◌, length, drop, replicate, if◌then◌else◌, Some, None, slice_set};
 ghost use Rattle.hold.specs.Meaning.{Cells, cell_at, comes_back, copied, copies, frame_length, stores};
 ghost use Rattle.table.specs.Places.{taken_places};

@@ -1,3 +1,5 @@
+#![tactic(auto)]
+
 // Scenarios that a hold has to pass, run on the three holds.
 #[cfg(test)]
 mod tests {

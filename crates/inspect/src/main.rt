@@ -1,4 +1,6 @@
 // inspect: tells what each captured frame says, or why it would be turned away
+#![tactic(auto)]
+
 mod options;
 mod told;
 

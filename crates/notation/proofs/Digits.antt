@@ -6,7 +6,7 @@ use Rattle.notation.specs.Classes.{is_digit}
 use Rattle.notation.specs.Digits.{value_after, value, digits}
 use Rattle.std.proofs.lemmas.List.{take_more}
 use Rattle.std.proofs.lemmas.Bool.Decides.{nat_tests}
-use Rattle.std.specs.List.{AllByRecursion as All}
+use Rattle.std.specs.List.{AllByRecursion}
 
 pub length_digits : (w n : ℕ) → length (digits w n) ≡ w
 length_digits zero n = refl
@@ -15,7 +15,7 @@ length_digits (suc w) n = ap suc (length_digits w n)
 digit_is : (d : ℕ) → d < 10 → is_digit (d + 48) ≡ true
 digit_is d h = grind (arith, nat_tests)
 
-pub all_digits : (w n : ℕ) → All (λ b. is_digit b ≡ true) (digits w n)
+pub all_digits : (w n : ℕ) → AllByRecursion (λ b. is_digit b ≡ true) (digits w n)
 all_digits zero n = tt
 all_digits (suc w) n = (digit_is (n / 10 ^ w % 10) (mod-lt (n / 10 ^ w) (omega arith)), all_digits w n)
 
@@ -52,7 +52,7 @@ digit_small : (b : ℕ) → is_digit b ≡ true → b - 48 < 10
 digit_small b h = grind (arith, nat_tests)
 
 -- digits alone have a value below 10 to the number of them
-pub value_after_below : (v : ℕ) (ds : List ℕ) → All (λ b. is_digit b ≡ true) ds → value_after v ds < (v + 1) * 10 ^ length ds
+pub value_after_below : (v : ℕ) (ds : List ℕ) → AllByRecursion (λ b. is_digit b ≡ true) ds → value_after v ds < (v + 1) * 10 ^ length ds
 unfolding value_after
 value_after_below v [] a = omega arith
 value_after_below v (d ∷ ds) (h, a) =
@@ -84,7 +84,7 @@ digit_back : (d : ℕ) → is_digit d ≡ true → d - 48 + 48 ≡ d
 digit_back d h = grind (arith, nat_tests)
 
 -- a run of digits is what its value is written as, whatever stands before it
-pub digits_value_after : (v : ℕ) (ds : List ℕ) → All (λ b. is_digit b ≡ true) ds → digits (length ds) (value_after v ds) ≡ ds
+pub digits_value_after : (v : ℕ) (ds : List ℕ) → AllByRecursion (λ b. is_digit b ≡ true) ds → digits (length ds) (value_after v ds) ≡ ds
 unfolding value_after
 digits_value_after v [] a = refl
 digits_value_after v (d ∷ ds) (h, a) =

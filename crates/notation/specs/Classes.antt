@@ -1,5 +1,5 @@
 -- The classes of bytes that the formats are written with.
-use Rattle.std.specs.Prelude.{◌≡◌, ℕ, Bool, true, false, ◌&&◌, ◌||◌, List, [], ◌∷◌, codes, ◌==◌, nat_le}
+use Rattle.std.specs.Prelude.{ℕ, Bool, false, ◌&&◌, ◌||◌, List, [], ◌∷◌, codes, ◌==◌, nat_le}
 use Rattle.notation.specs.declared.classes.Class.{Class}
 use Rattle.notation.specs.declared.classes.Class.TheVariants.{Digit, Capital, Either, Free}
 

@@ -2,7 +2,7 @@
 use Rattle.std.specs.Prelude.{ℕ}
 use Rattle.notation.specs.declared.refusals.FieldFault.{FieldFault}
 use Rattle.notation.specs.declared.refusals.Layer.{Layer}
-use Rattle.notation.specs.declared.refusals.Layer.TheVariants.{Frame, Text, Field, Line}
+use Rattle.notation.specs.declared.refusals.Layer.TheVariants.{Text, Field}
 use Rattle.notation.specs.declared.refusals.Refusal.{Refusal}
 use Rattle.notation.specs.declared.refusals.TextFault.{TextFault}
 use Rattle.notation.specs.declared.refusals.TextFault.TheVariants.{Label, Within}

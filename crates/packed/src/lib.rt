@@ -1,4 +1,6 @@
 // The packed hold: frames end to end in lent bytes, and a lent span for each place that tells where its frame lies.
+#![tactic(auto)]
+
 ghost use Rattle.std.specs.Prelude.{◌≡◌, ◌≤◌, map, length, is_some};
 ghost use Rattle.packed.specs.Spans.{Apart, Inside, total};
 ghost use Rattle.table.specs.Masks.{mask_of};

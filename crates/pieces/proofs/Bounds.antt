@@ -4,7 +4,7 @@ use Rattle.notation.specs.Classes.{is_of}
 use Rattle.notation.specs.declared.classes.Class.{Class}
 use Rattle.notation.specs.declared.classes.Class.TheVariants.{Digit, Capital, Either, Free}
 use Rattle.notation.proofs.Digits.{length_digits, all_digits}
-use Rattle.std.specs.List.{AllByRecursion as All}
+use Rattle.std.specs.List.{AllByRecursion}
 use Rattle.std.proofs.ByRecursion.{All-append, All-weaker}
 use Rattle.std.proofs.lemmas.List.{length-append}
 use Rattle.std.proofs.lemmas.Bool.{false≢true, eqb-false}
@@ -69,10 +69,10 @@ class_unbroken Capital = refl
 class_unbroken Either = refl
 class_unbroken Free = refl
 
-of_unbroken : (c : Class) (s : List ℕ) → All (Of c) s → All Unbroken s
+of_unbroken : (c : Class) (s : List ℕ) → AllByRecursion (Of c) s → AllByRecursion Unbroken s
 of_unbroken c s h = All-weaker (Of c) Unbroken (λ b o e. false≢true (sym (class_unbroken c) ∙ subst (Of c) e o)) s h
 
-list_unbroken : (t : List ℕ) → unbroken t ≡ true → All Unbroken t
+list_unbroken : (t : List ℕ) → unbroken t ≡ true → AllByRecursion Unbroken t
 list_unbroken [] h = tt
 list_unbroken (b ∷ t) h = let p = both_true (not (eqb b 13)) (unbroken t) h in (eqb-false b 13 (negated (eqb b 13) p.0), list_unbroken t p.1)
   where
@@ -80,7 +80,7 @@ list_unbroken (b ∷ t) h = let p = both_true (not (eqb b 13)) (unbroken t) h in
     negated true e = absurd (false≢true e)
     negated false e = refl
 
-pub no_return : (f : Notation) → clean f ≡ true → (v : Value f) → Proper f v → All Unbroken (print f v)
+pub no_return : (f : Notation) → clean f ≡ true → (v : Value f) → Proper f v → AllByRecursion Unbroken (print f v)
 no_return (number k) c v h = of_unbroken Digit (print (number k) v) (all_digits k v)
 no_return (exactly k d) c v h = of_unbroken d v h.1
 no_return (up_to k d) c v h = of_unbroken d v h.2

@@ -4,7 +4,7 @@ use lib.Arith.{digits_lt}
 use native.Mathlib.Nat.{pow-le-pow_right}
 use Rattle.notation.specs.Digits.{value}
 use Rattle.notation.specs.declared.classes.Class.TheVariants.{Digit}
-use Rattle.std.specs.List.{AllByRecursion as All}
+use Rattle.std.specs.List.{AllByRecursion}
 use Rattle.std.proofs.lemmas.List.{append-nil}
 use Rattle.pieces.specs.Cuts.{Cut, Stops}
 use Rattle.pieces.specs.Notation.{Of, Finds, Proper, dec, units}
@@ -53,7 +53,7 @@ too_wide p q v h none w f =
 pub nothing_parted : {s : List ℕ} (p q : ℕ) → ((v : List ℕ × List ℕ) → Parted s v → ⊥) → Finds (dec p q) s None
 nothing_parted p q none v f = none v (f.0, f.1.0, f.1.1)
 
-module _ (w f : List ℕ) (q : ℕ) (dw : All (Of Digit) w) (df : All (Of Digit) f) (l : length f ≤ q) where
+module _ (w f : List ℕ) (q : ℕ) (dw : AllByRecursion (Of Digit) w) (df : AllByRecursion (Of Digit) f) (l : length f ≤ q) where
   pub fraction_lt : value f * 10 ^ (q - length f) < 10 ^ q
   fraction_lt =
       let less = mul-lt-mul_of_pos_right (value_lt f df) (ten_pos (q - length f)) in

@@ -4,7 +4,7 @@ use Rattle.notation.specs.Digits.{value, digits}
 use Rattle.notation.specs.declared.classes.Class.{Class}
 use Rattle.notation.specs.declared.classes.Class.TheVariants.{Digit}
 use Rattle.notation.proofs.Digits.{length_digits, all_digits, value_digits}
-use Rattle.std.specs.List.{AllByRecursion as All}
+use Rattle.std.specs.List.{AllByRecursion}
 use Rattle.std.proofs.lemmas.List.{append_assoc, append-nil, append_cancel_left, length-append, nil_from_length}
 use Rattle.pieces.specs.Cuts.{Front, Stops}
 use Rattle.pieces.specs.Notation.{Notation, Value, Of, Proper, print, Finds, Unambiguous, number, exactly, dec, sign, lead, opt, both, stands}
@@ -160,10 +160,10 @@ module _ (b : ℕ) (f : Notation) (s : List ℕ) where
 pub front_short : (k : ℕ) (c : Class) (s : List ℕ) → length s < k → Front (exactly k c) s None
 front_short k c s l v w h e = omega (arith, ap length e, length-append v w, h.0)
 
-pub front_not : (k : ℕ) (c : Class) (s x t : List ℕ) → s ≡ x ++ t → length x ≡ k → (All (Of c) x → ⊥) → Front (exactly k c) s None
+pub front_not : (k : ℕ) (c : Class) (s x t : List ℕ) → s ≡ x ++ t → length x ≡ k → (AllByRecursion (Of c) x → ⊥) → Front (exactly k c) s None
 front_not k c s x t e l never v w h e' =
     let q = same_front v w x t (sym e' ∙ e) (h.0 ∙ sym l) in
-    never (subst (All (Of c)) q.0 h.1)
+    never (subst (AllByRecursion (Of c)) q.0 h.1)
 
 pub number_none : (k : ℕ) (s : List ℕ) → Front (exactly k Digit) s None → Front (number k) s None
 number_none k s none v w h e = none (digits k v) w (length_digits k v, all_digits k v) e

@@ -6,7 +6,7 @@ use Rattle.notation.specs.Classes.{is_of}
 use Rattle.notation.specs.Digits.{value_after, value, digits}
 use Rattle.notation.specs.declared.classes.Class.{Class}
 use Rattle.notation.specs.declared.classes.Class.TheVariants.{Digit, Capital}
-use Rattle.std.specs.List.{AllByRecursion as All}
+use Rattle.std.specs.List.{AllByRecursion}
 use Rattle.std.proofs.lemmas.Bool.Decides.{nat_tests}
 use Rattle.std.proofs.ByRecursion.{All-take}
 use Rattle.std.proofs.lemmas.List.{take_more, length-take-le}
@@ -33,7 +33,7 @@ of_class c b = go (is_of c b) refl
     go true e = inl e
     go false e = inr (λ h. let z : true ≡ false = sym h ∙ e in let o : ◌≡◌ {A = ℕ} 0 1 = cc in omega arith)
 
-pub all_of_class : (c : Class) (s : List ℕ) → All (Of c) s ⊎ (All (Of c) s → ⊥)
+pub all_of_class : (c : Class) (s : List ℕ) → AllByRecursion (Of c) s ⊎ (AllByRecursion (Of c) s → ⊥)
 all_of_class c [] = inl tt
 all_of_class c (b ∷ s) = elim (of_class c b) [ inl d ↦ elim (all_of_class c s) [ inl a ↦ inl (d, a) | inr n ↦ inr (λ h. n h.1) ] | inr n ↦ inr (λ h. n h.0) ]
 
@@ -77,7 +77,7 @@ value_push ds d = value_append 0 ds (d ∷ [])
 pub value_more : (ds : List ℕ) (i : ℕ) → i < length ds → value (take (i + 1) ds) ≡ value (take i ds) * 10 + (get_or ds i 0 - 48)
 value_more ds i l = ap value (take_more ds i 0 l) ∙ value_push (take i ds) (get_or ds i 0)
 
-pub value_lt : (ds : List ℕ) → All (Of Digit) ds → value ds < 10 ^ length ds
+pub value_lt : (ds : List ℕ) → AllByRecursion (Of Digit) ds → value ds < 10 ^ length ds
 value_lt [] a = omega (arith, value_nil, pow-zero 10)
 value_lt (d ∷ ds) a =
     let ih = value_lt ds a.1 in
@@ -87,12 +87,12 @@ value_lt (d ∷ ds) a =
     let m : (d - 48) * 10 ^ length ds ≤ 9 * 10 ^ length ds = mul-le-mul_right (10 ^ length ds) (omega arith) in
     omega (arith, ih, p, c, m)
 
-pub value_short : (ds : List ℕ) (k : ℕ) → All (Of Digit) ds → length ds ≤ k → value ds < 10 ^ k
+pub value_short : (ds : List ℕ) (k : ℕ) → AllByRecursion (Of Digit) ds → length ds ≤ k → value ds < 10 ^ k
 value_short ds k a l =
     let m : 10 ^ length ds ≤ 10 ^ k = pow-le-pow_right (omega arith) l in
     omega (arith, m, value_lt ds a)
 
-pub value_front : (ds : List ℕ) (i : ℕ) → All (Of Digit) ds → i < length ds → length ds ≤ 18 → value (take i ds) < 10 ^ 17
+pub value_front : (ds : List ℕ) (i : ℕ) → AllByRecursion (Of Digit) ds → i < length ds → length ds ≤ 18 → value (take i ds) < 10 ^ 17
 value_front ds i a l small = value_short (take i ds) 17 (All-take (Of Digit) i ds a) (omega (arith, length-take-le i ds (omega arith)))
 
 -- w digits are the last w of a longer number
@@ -109,7 +109,7 @@ digits_low (suc w) a r =
     ∙ ap (λ l. (r / 10 ^ w % 10 + 48) ∷ l) (digits_low w (a * 10) r)
 
 -- a run of digits is what is written of its value
-pub digits_value : (s : List ℕ) → All (Of Digit) s → digits (length s) (value s) ≡ s
+pub digits_value : (s : List ℕ) → AllByRecursion (Of Digit) s → digits (length s) (value s) ≡ s
 digits_value [] a = refl
 digits_value (d ∷ ds) a =
     let r = digit_range d a.0 in

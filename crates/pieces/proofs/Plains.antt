@@ -4,7 +4,7 @@ use native.Mathlib.Nat.{pow-zero, zero-div, zero-mod}
 use lib.Arith.{digits_div, digits_mod}
 use Rattle.notation.specs.Digits.{value_after, value}
 use Rattle.notation.specs.declared.classes.Class.TheVariants.{Digit}
-use Rattle.std.specs.List.{AllByRecursion as All}
+use Rattle.std.specs.List.{AllByRecursion}
 use Rattle.std.proofs.lemmas.Fmt.{digits_decimal, digits_value-decimal, length-decimal-le, decimal-digits_value, decimal_digit, first_decimal}
 use Rattle.std.proofs.lemmas.Str.Parse.{IsNumeralModel, FoldsDigits, IsDigitsTest, numerals_by_fold}
 use Rattle.std.proofs.lemmas.Bool.{eqb-true, eqb-false, ne_eqb, cond-false}
@@ -13,18 +13,18 @@ use Rattle.pieces.specs.Plain.{whole_text, fraction_text, plain, last_of, NoLead
 use Rattle.pieces.proofs.Numbers.{ten_pos, digit_range, digit_is, value_cons, value_nil}
 use Rattle.pieces.proofs.Commas.{fraction_lt, decimal_lt}
 
-all_digits_tell : IsDigitsTest (All (Of Digit))
+all_digits_tell : IsDigitsTest (AllByRecursion (Of Digit))
 all_digits_tell = record { empty = tt; parts = λ c cs h. (digit_range c h.0, h.1); more = λ c cs h k. (digit_is c h.0 h.1, k) }
 
 values_fold : FoldsDigits value_after
 unfolding value_after
 values_fold = search rules
 
-own : IsNumeralModel (All (Of Digit)) value
-own = numerals_by_fold (All (Of Digit)) all_digits_tell value_after values_fold
+own : IsNumeralModel (AllByRecursion (Of Digit)) value
+own = numerals_by_fold (AllByRecursion (Of Digit)) all_digits_tell value_after values_fold
 
 pub record Fraction (k r : ℕ) (f : List ℕ) : Type 0 where
-  pub digits : All (Of Digit) f
+  pub digits : AllByRecursion (Of Digit) f
   pub some : 1 ≤ length f
   pub few : length f ≤ k
   pub counts : value f * 10 ^ (k - length f) ≡ r
@@ -78,10 +78,10 @@ fraction_fits (suc j) r some small = go (λ pos. fraction_fits j (r % 10 ^ j) po
     go ih true e = one_digit j r digit (eqb-true (r % 10 ^ j) 0 e)
     go ih false e = more_digits j r _ digit (ih (some_place j (r % 10 ^ j) rest (eqb-false (r % 10 ^ j) 0 e)))
 
-whole_fits : (n : ℕ) → n < 2 ^ 64 → All (Of Digit) (whole_text n) × (value (whole_text n) ≡ n)
+whole_fits : (n : ℕ) → n < 2 ^ 64 → AllByRecursion (Of Digit) (whole_text n) × (value (whole_text n) ≡ n)
 whole_fits n fits = go (eqb n 0) refl
   where
-    go : (t : Bool) → eqb n 0 ≡ t → All (Of Digit) (cond t [] (decimal n)) × (value (cond t [] (decimal n)) ≡ n)
+    go : (t : Bool) → eqb n 0 ≡ t → AllByRecursion (Of Digit) (cond t [] (decimal n)) × (value (cond t [] (decimal n)) ≡ n)
     go true e = (tt, value_nil ∙ sym (eqb-true n 0 e))
     go false e = (digits_decimal own n fits, digits_value-decimal own n fits)
 
@@ -124,7 +124,7 @@ module _ (q n : ℕ) (some : 0 < q) (fits : n < 2 ^ 64) where
       let b = decimal_lt p q (plain q n) (h.0, h.1, h.2, f.some, f.few) in
       subst (λ m. m < 10 ^ (p + q)) plain_counts b
 
-some_value : (d : ℕ) (ds : List ℕ) → Of Digit d → All (Of Digit) ds → (last_of d ds ≡ 48 → ⊥) → 0 < value (d ∷ ds)
+some_value : (d : ℕ) (ds : List ℕ) → Of Digit d → AllByRecursion (Of Digit) ds → (last_of d ds ≡ 48 → ⊥) → 0 < value (d ∷ ds)
 some_value d [] h a ne = let r = digit_range d h in omega (arith, one_value d, r, above)
   where
     above : (d ≡ 48 → ⊥) → 48 ≤ d → 0 < d - 48
@@ -138,7 +138,7 @@ text_step j a r x small e =
     ∙ ap (λ m. (48 + a) ∷ cond (eqb m 0) [] (fraction_text j m)) (digits_mod a small)
 
 -- digits without trailing zeros are what is written of what they count
-fraction_plain : (k : ℕ) (f : List ℕ) → All (Of Digit) f → 1 ≤ length f → length f ≤ k → NoTrail f → fraction_text k (value f * 10 ^ (k - length f)) ≡ f
+fraction_plain : (k : ℕ) (f : List ℕ) → AllByRecursion (Of Digit) f → 1 ≤ length f → length f ≤ k → NoTrail f → fraction_text k (value f * 10 ^ (k - length f)) ≡ f
 fraction_plain zero f a some few n = absurd (omega arith)
 fraction_plain (suc j) [] a some few n = absurd (omega arith)
 fraction_plain (suc j) (d ∷ []) a some few n = text_step j (d - 48) 0 _ (ten_pos j) counts ∙ ap (λ b. b ∷ []) back
@@ -180,7 +180,7 @@ fraction_plain (suc j) (d ∷ e ∷ f) a some few n =
     keep [] m = tt
     keep (b ∷ r) m = m
 
-whole_plain : (w : List ℕ) → All (Of Digit) w → NoLead w → value w < 2 ^ 64 → whole_text (value w) ≡ w
+whole_plain : (w : List ℕ) → AllByRecursion (Of Digit) w → NoLead w → value w < 2 ^ 64 → whole_text (value w) ≡ w
 whole_plain [] a n l = ap whole_text value_nil
 whole_plain (d ∷ w) a n l = cond-false _ [] _ (ne_eqb (value (d ∷ w)) 0 positive) ∙ same
   where

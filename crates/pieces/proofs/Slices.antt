@@ -1,6 +1,6 @@
 -- A cut at the first byte without P is the only one; and fronts of one length are equal.
 use Rattle.std.proofs.Common.{◌≡◌, ℕ, ◌<◌, ◌⊎◌, List, [], ◌∷◌, ◌++◌, length, get_or, take, drop, sym, refl, ap, ◌∙◌, subst, inl, inr, add-zero, arith, length-drop, take-append-drop, get_or-drop}
-use Rattle.std.specs.List.{AllByRecursion as All}
+use Rattle.std.specs.List.{AllByRecursion}
 use Rattle.std.proofs.lemmas.List.{take_at, drop_at}
 use Rattle.pieces.specs.Cuts.{Stops, Cut}
 
@@ -10,7 +10,7 @@ same_front u w x t e l = (
   sym (drop_at u w (length u) refl) ∙ ap (drop (length u)) e ∙ drop_at x t (length u) (sym l),
 )
 
-pub same_cut : (P : ℕ → Type 0) (u w u' w' : List ℕ) → All P u → Stops P w → All P u' → Stops P w' → u ++ w ≡ u' ++ w' → (u ≡ u') × (w ≡ w')
+pub same_cut : (P : ℕ → Type 0) (u w u' w' : List ℕ) → AllByRecursion P u → Stops P w → AllByRecursion P u' → Stops P w' → u ++ w ≡ u' ++ w' → (u ≡ u') × (w ≡ w')
 same_cut P [] w [] w' a s a' s' e = (refl, e)
 same_cut P [] [] (c ∷ u') w' a s a' s' e = absurd (let z : ◌≡◌ {A = ℕ} 0 1 = cc in omega arith)
 same_cut P [] (b ∷ w) (c ∷ u') w' a s a' s' e = absurd (s (let q : c ≡ b = cc in subst P q a'.0))
@@ -30,7 +30,7 @@ stops_drop P s n h = go (drop n s) refl
     go [] e = tt
     go (b ∷ w) e = λ x. h (omega (arith, length-drop n s, ap length e)) (subst P (ap (λ l. get_or l 0 0) (sym e) ∙ get_or-drop n s 0 0 ∙ ap (λ k. get_or s k 0) (add-zero n)) x)
 
-pub cut_of : (P : ℕ → Type 0) (s : List ℕ) (n : ℕ) (u w : List ℕ) → All P (take n s) → (n < length s → P (get_or s n 0) → ⊥) → u ≡ take n s → w ≡ drop n s → Cut P s u w
+pub cut_of : (P : ℕ → Type 0) (s : List ℕ) (n : ℕ) (u w : List ℕ) → AllByRecursion P (take n s) → (n < length s → P (get_or s n 0) → ⊥) → u ≡ take n s → w ≡ drop n s → Cut P s u w
 cut_of P s n u w a h e f = rw (e, f) (record { split = sym (take-append-drop n s); all = a; stops = stops_drop P s n h })
 
 -- a list can be cut by any test

@@ -1,7 +1,7 @@
 -- A piece at the front of contents and what is left after it.
 use Rattle.std.specs.Prelude.{◌≡◌, ℕ, List, [], ◌∷◌, ◌++◌, Some, None, Option, ◌≢◌}
 use Rattle.std.specs.Borrow.{Bor}
-use Rattle.std.specs.List.{AllByRecursion as All}
+use Rattle.std.specs.List.{AllByRecursion}
 use Rattle.pieces.specs.Notation.{Notation, Value, Proper, print}
 
 -- w is empty, or begins with a byte that has not P
@@ -12,7 +12,7 @@ Stops P (b ∷ bs) = P b → ⊥
 -- u is the longest front of s with P throughout, and w the rest
 pub record Cut (P : ℕ → Type 0) (s u w : List ℕ) : Type 0 where
   pub split : s ≡ u ++ w
-  pub all : All P u
+  pub all : AllByRecursion P u
   pub stops : Stops P w
 
 abbrev pub NotSlash : ℕ → Type 0

@@ -4,7 +4,7 @@ use Rattle.notation.specs.Classes.{is_of}
 use Rattle.notation.specs.Digits.{value, digits}
 use Rattle.notation.specs.declared.classes.Class.{Class}
 use Rattle.notation.specs.declared.classes.Class.TheVariants.{Digit}
-use Rattle.std.specs.List.{AllByRecursion as All}
+use Rattle.std.specs.List.{AllByRecursion}
 
 -- a byte of a class
 abbrev pub Of : Class → ℕ → Type 0
@@ -55,9 +55,9 @@ print (stands f) v = print f v
 -- each piece of the value is as long as the notation says, and of its class
 abbrev pub Proper : (f : Notation) → Value f → Type 0
 Proper (number k) n = n < 10 ^ k
-Proper (exactly k c) v = (length v ≡ k) × All (Of c) v
-Proper (up_to k c) v = (1 ≤ length v) × (length v ≤ k) × All (Of c) v
-Proper (dec p q) v = All (Of Digit) v.0 × All (Of Digit) v.1 × (length v.0 ≤ p) × (1 ≤ length v.1) × (length v.1 ≤ q)
+Proper (exactly k c) v = (length v ≡ k) × AllByRecursion (Of c) v
+Proper (up_to k c) v = (1 ≤ length v) × (length v ≤ k) × AllByRecursion (Of c) v
+Proper (dec p q) v = AllByRecursion (Of Digit) v.0 × AllByRecursion (Of Digit) v.1 × (length v.0 ≤ p) × (1 ≤ length v.1) × (length v.1 ≤ q)
 Proper sign v = Unit {0}
 Proper (flag t) v = Unit {0}
 Proper (lead t f) v = Proper f v

@@ -1,7 +1,7 @@
 -- The one way in which a decimal is written: by its digits, and in the words of the rule.
 use Rattle.std.specs.Prelude.{◌≡◌, ℕ, zero, suc, ◌+◌, ◌/◌, ◌%◌, ◌^◌, ◌<◌, Bool, true, false, cond, List, [], ◌∷◌, ◌++◌, length, ℤ, pos, negsuc, neg_ℤ, Some, None, decimal, Option, ◌==◌}
 use Rattle.notation.specs.declared.classes.Class.TheVariants.{Digit}
-use Rattle.std.specs.List.{AllByRecursion as All}
+use Rattle.std.specs.List.{AllByRecursion}
 use Rattle.pieces.specs.Notation.{Of, Fit, Finds, dec, Proper, units}
 use Rattle.pieces.specs.declared.decimals.Decimal.{Decimal}
 use Rattle.pieces.specs.declared.decimals.Scale.{Scale}
@@ -16,7 +16,7 @@ places HundredThousandths = 5
 
 -- s is digits, a comma and digits
 abbrev pub Parted : List ℕ → List ℕ × List ℕ → Type 0
-Parted s v = (s ≡ v.0 ++ 44 ∷ v.1) × All (Of Digit) v.0 × All (Of Digit) v.1
+Parted s v = (s ≡ v.0 ++ 44 ∷ v.1) × AllByRecursion (Of Digit) v.0 × AllByRecursion (Of Digit) v.1
 
 -- the decimal that contents write: its units, and its digits before and after the comma
 abbrev pub Counted : ℕ → ℕ → List ℕ → Option Decimal → Type 0

@@ -4,13 +4,13 @@ ghost use Rattle.notation.specs.Digits.{value};
 ghost use Rattle.notation.specs.declared.classes.Class.TheVariants.{Digit};
 ghost use Rattle.pieces.specs.Cuts.{Cut, NotSlash, Front, seen_both, seen_rest};
 ghost use Rattle.pieces.specs.Notation.{Of, Finds, exactly, number};
-ghost use Rattle.std.specs.List.{AllByRecursion as All};
+ghost use Rattle.std.specs.List.{AllByRecursion};
 
 use notation::classes::Class;
 
 // Whether each byte is of the class.
 pub fn all_of(s: &[u8], class: Class) -> bool
-    ensures each_of_the_class { Decides result (All (Of class) s.now) }
+    ensures each_of_the_class { Decides result (AllByRecursion (Of class) s.now) }
 {
     for b in s {
         if !class.has(*b) {
@@ -23,7 +23,7 @@ pub fn all_of(s: &[u8], class: Class) -> bool
 // How many digits stand at the front.
 pub fn leading_digits(s: &[u8]) -> usize
     ensures within { result ≤ length s.now }
-    ensures digits { All (Of Digit) (take result s.now) }
+    ensures digits { AllByRecursion (Of Digit) (take result s.now) }
     ensures stops { result < length s.now → Of Digit (slice_index s.now result) → ⊥ }
 {
     for (i, b) in s.iter().enumerate() {
@@ -44,7 +44,7 @@ pub fn split_digits(s: &[u8]) -> (&[u8], &[u8])
 // How many bytes stand before the first slash.
 fn before_slash(s: &[u8]) -> usize
     ensures within { result ≤ length s.now }
-    ensures others { All NotSlash (take result s.now) }
+    ensures others { AllByRecursion NotSlash (take result s.now) }
     ensures stops { result < length s.now → NotSlash (slice_index s.now result) → ⊥ }
 {
     for (i, b) in s.iter().enumerate() {
@@ -88,7 +88,7 @@ pub fn front_of(s: &[u8], n: usize, class: Class) -> Option<(&[u8], &[u8])>
 
 // The number that digits write, of which there are few enough that it fits.
 pub(crate) fn number_of(s: &[u8]) -> u64
-    requires digits { All (Of Digit) s.now }
+    requires digits { AllByRecursion (Of Digit) s.now }
     requires few { length s.now ≤ 18 }
     ensures as_written { result ≡ value s.now }
 {

@@ -3,7 +3,7 @@ ghost use Rattle.std.specs.Prelude.{◌≡◌, ℕ, ◌+◌, ◌^◌, ◌<◌, �
 ghost use Rattle.notation.specs.declared.classes.Class.TheVariants.{Digit};
 ghost use Rattle.pieces.specs.Notation.{Of, units};
 ghost use Rattle.pieces.specs.Plain.{places, Parted, Counted, OnePlainText, ZeroText};
-ghost use Rattle.std.specs.List.{AllByRecursion as All};
+ghost use Rattle.std.specs.List.{AllByRecursion};
 
 use crate::cuts::{after, number_of, split_digits};
 
@@ -65,7 +65,7 @@ fn cut_decimal(s: &[u8]) -> Option<(&[u8], &[u8])>
 
 // How many units of the scale they write.
 fn in_units(whole: &[u8], fraction: &[u8], scale: Scale) -> u64
-    requires digits { All (Of Digit) whole.now × All (Of Digit) fraction.now }
+    requires digits { AllByRecursion (Of Digit) whole.now × AllByRecursion (Of Digit) fraction.now }
     requires few { (length fraction.now ≤ places scale) × (length whole.now ≤ 13) }
     ensures { result ≡ units (places scale) (whole.now, fraction.now) }
 {

@@ -1,4 +1,6 @@
 // The striped hold: each place has a stripe of the lent bytes to itself, long enough for the longest frame.
+#![tactic(auto)]
+
 ghost use Rattle.std.specs.Prelude.{◌≡◌, ◌*◌, ◌≤◌, map, length, take, is_some};
 ghost use Rattle.striped.specs.Stripes.{Short};
 ghost use Rattle.table.specs.Masks.{mask_of};

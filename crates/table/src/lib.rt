@@ -1,4 +1,6 @@
 // The numbered table: place k has one entry or none.
+#![tactic(auto)]
+
 ghost use Rattle.std.specs.Prelude.{◌≡◌, length, replicate, Some, None, nat_lt, slice_index_or, slice_set};
 ghost use Rattle.table.specs.Places.{taken_places};
 

@@ -1,7 +1,7 @@
-use Rattle.std.proofs.Common.{◌≡◌, ◌+◌, ◌%◌, ◌<◌, length, get_or, set, Some, None, sym, ap, ◌∙◌, subst, ap₂, arith}
+use Rattle.std.proofs.Common.{◌≡◌, ◌+◌, ◌%◌, set, Some, ap, ◌∙◌, ap₂, arith}
 use Rattle.table.specs.Places.{taken_places}
 use Rattle.book.specs.Ledger.{place_of}
-use Rattle.book.specs.View.{entries_of, ledger}
+use Rattle.book.specs.View.{ledger}
 use Rattle.book.proofs.Ledgers.{free, one_more, place_inside}
 use Rattle.book.proofs.Book.enter.Goals as goal
 

@@ -1,4 +1,4 @@
-use Rattle.std.proofs.Common.{◌≡◌, sym, ◌∙◌}
+use Rattle.std.proofs.Common.{sym, ◌∙◌}
 use Rattle.book.specs.View.{ledger}
 use Rattle.book.proofs.Ledgers.{has_no_place}
 use Rattle.book.proofs.Book.has_open.Goals as goal

@@ -1,4 +1,4 @@
-use Rattle.std.proofs.Common.{◌≡◌, [], ◌∷◌, sym, ap, ◌∙◌, arith}
+use Rattle.std.proofs.Common.{◌≡◌, [], ◌∷◌, ap, ◌∙◌, arith}
 use Rattle.frame.proofs.Ranges.{range_back, range_written_lem}
 use Rattle.frame.proofs.Written.{ones}
 use Rattle.frame.specs.Texts.{range_text, range_of}

@@ -1,5 +1,5 @@
 use Rattle.std.proofs.Common.{sym, refl, ◌∙◌, subst}
-use Rattle.std.specs.List.{AllByRecursion as All}
+use Rattle.std.specs.List.{AllByRecursion}
 use Rattle.std.proofs.ByRecursion.{All-more, All-get_or}
 use Rattle.std.proofs.lemmas.List.{take_all}
 use Rattle.std.proofs.lemmas.Bool.{false≢true}
@@ -18,4 +18,4 @@ pub loop-b-preserved : goal.loop-b-preserved
 loop-b-preserved c = All-more (Of c.args.class) c.args.s.now c.loop-b.b-index 0 c.loop-b-test.true c.loop-b.invariant (sym c.if-not-has.ensures.by_class)
 
 pub returns : goal.returns
-returns c = record { each_of_the_class = ((λ e. subst (All (Of c.args.class)) (take_all c.loop-b.b-index c.args.s.now c.loop-b-test.false) c.loop-b.invariant), λ h. refl) }
+returns c = record { each_of_the_class = ((λ e. subst (AllByRecursion (Of c.args.class)) (take_all c.loop-b.b-index c.args.s.now c.loop-b-test.false) c.loop-b.invariant), λ h. refl) }

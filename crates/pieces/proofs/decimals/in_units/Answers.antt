@@ -1,4 +1,4 @@
-use Rattle.std.proofs.Common.{◌-◌, ◌≤◌, refl, arith}
+use Rattle.std.proofs.Common.{◌≤◌, refl, arith}
 use Rattle.pieces.specs.Plain.{places}
 use Rattle.pieces.specs.declared.decimals.Scale.{Scale}
 use Rattle.pieces.specs.declared.decimals.Scale.TheVariants.{Hundredths, Thousandths, TenThousandths, HundredThousandths}

@@ -1,4 +1,4 @@
-use Rattle.std.proofs.Common.{◌≡◌, ℕ, ◌+◌, ◌/◌, ◌%◌, [], ◌∷◌, sym, ap, ◌∙◌}
+use Rattle.std.proofs.Common.{ℕ, ◌+◌, ◌/◌, ◌%◌, [], ◌∷◌, ap, ◌∙◌}
 use Rattle.frame.proofs.Written.{ones}
 use Rattle.frame.specs.Headers.{head_bytes}
 use Rattle.frame.proofs.write.Heading.bytes.Goals as goal
