@@ -1,4 +1,6 @@
 // conformance: answers requests on standard input, one a line, so that another implementation can be held against this one
+#![tactic(auto)]
+
 mod words;
 
 use frame::arrival::{Arrival, Circle, judge};

@@ -1,11 +1,11 @@
 -- What the writer of trades answers for a posting.
-use Rattle.std.proofs.Common.{◌≡◌, ℕ, ◌+◌, ◌<◌, ◌≤◌, Bool, true, false, cond, eqb, leb, List, ◌++◌, length, take, drop, is_some, Some, None, Ok, Err, Option, Result, sym, refl, ap, ◌∙◌, subst, ap₂, arith}
+use Rattle.std.proofs.Common.{◌≡◌, ℕ, ◌+◌, ◌≤◌, true, false, eqb, leb, List, ◌++◌, length, take, drop, is_some, Some, None, Ok, Err, Option, sym, refl, ap, ◌∙◌, ap₂, arith}
 use lib.Seq.{take-append_seam}
 use Rattle.notation.specs.declared.refusals.FieldFault.{FieldFault}
 use Rattle.notation.specs.declared.refusals.Why.{Why}
 use Rattle.trade.proofs.Round.{checked_fine, one_judgement, whole_short}
 use Rattle.trade.specs.Deals.{Deal, table}
-use Rattle.trade.specs.Writing.{Checked, Wrote, whole}
+use Rattle.trade.specs.Writing.{Wrote, whole}
 use Rattle.trade.specs.declared.writing.WriteFault.{WriteFault}
 use Rattle.trade.specs.declared.writing.WriteFault.TheVariants.{Contents, Short}
 use Rattle.std.proofs.lemmas.Bool.{le-leb, lt-leb, ne_eqb, or_from}
@@ -16,7 +16,7 @@ use Rattle.frame.specs.declared.kinds.Isn.{Isn}
 use Rattle.frame.specs.declared.kinds.Kind.TheVariants.{Trade}
 use Rattle.frame.specs.declared.kinds.Mark.TheVariants.{Fresh}
 use Rattle.frame.specs.declared.write.Heading.{Heading}
-use Rattle.line.proofs.Outputs.{Laid, laid, length_frame}
+use Rattle.line.proofs.Outputs.{laid, length_frame}
 use Rattle.line.proofs.Outputs.Laid.{none, whole as laid-whole}
 use Rattle.line.specs.Composing.{Composed, Composes, Composition, PostedAs, frame_size, posting_fault, trade_frame}
 

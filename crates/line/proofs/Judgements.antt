@@ -1,14 +1,13 @@
 -- What follows from a frame's being taken by the judge.
-use Rattle.std.proofs.Common.{◌≡◌, ℕ, ◌≤◌, Bool, true, false, cond, ◌&&◌, eqb, leb, length, Ok, Err, Result, sym, refl, ap, ◌∙◌, subst, ⊎_elim, arith}
-use Rattle.std.proofs.lemmas.Bool.{and_parts, leb-true, cases_Bool}
-use Rattle.frame.specs.Arrivals.{and_then, arrival_of, arriving, for_line, judged, message_of, raised, with_contents}
-use Rattle.frame.specs.Headers.{fit_size, read_header}
+use Rattle.std.proofs.Common.{◌≡◌, ℕ, ◌≤◌, Bool, true, false, cond, ◌&&◌, eqb, leb, length, Ok, Err, Result, sym, refl, ap, ◌∙◌, arith}
+use Rattle.std.proofs.lemmas.Bool.{and_parts, leb-true}
+use Rattle.frame.specs.Arrivals.{and_then, arrival_of, for_line, message_of, raised}
+use Rattle.frame.specs.Headers.{fit_size}
 use Rattle.frame.specs.declared.arrival.Arrival.{Arrival}
 use Rattle.frame.specs.declared.arrival.Circle.{Circle}
 use Rattle.frame.specs.declared.arrival.Message.{Message}
 use Rattle.frame.specs.declared.faults.FrameFault.{FrameFault}
 use Rattle.frame.specs.declared.faults.FrameFault.TheVariants.{Size}
-use Rattle.frame.specs.declared.faults.LineFault.{LineFault}
 use Rattle.frame.specs.declared.faults.LineFault.TheVariants.{InFrame, Member, Number}
 use Rattle.hold.specs.Meaning.{Frame}
 use Rattle.line.specs.Notices.{judgement, notice_of, noticed}

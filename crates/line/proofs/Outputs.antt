@@ -1,9 +1,8 @@
 -- Frames that a line writes into an output.
-use Rattle.std.proofs.Common.{◌≡◌, ℕ, ◌+◌, ◌-◌, ◌<◌, ◌≤◌, Bool, true, false, cond, ltb, leb, List, ◌∷◌, ◌++◌, length, take, drop, Some, None, Ok, Err, Option, Result, sym, refl, ap, ◌∙◌, subst, ap₂, ⊎_elim, arith, length-append}
+use Rattle.std.proofs.Common.{◌≡◌, ℕ, ◌+◌, ◌-◌, ◌<◌, ◌≤◌, Bool, true, false, cond, ltb, leb, List, ◌∷◌, ◌++◌, length, take, drop, Some, None, Ok, Err, Result, sym, refl, ap, ◌∙◌, ap₂, ⊎_elim, arith, length-append}
 use Rattle.std.proofs.lemmas.Bool.{le-leb, lt-leb, le-ltb, lt-ltb, cases_lt, cond-true, cond-false, leb-false, cases_Bool}
 use Rattle.frame.specs.Texts.{range_text, range_written}
 use Rattle.frame.specs.Writing.{frame_text, head_text, output_after, unwritable, wrote}
-use Rattle.frame.specs.declared.faults.FrameFault.{FrameFault}
 use Rattle.frame.specs.declared.faults.LineFault.{LineFault}
 use Rattle.frame.specs.declared.faults.LineFault.TheVariants.{Short}
 use Rattle.frame.specs.declared.range.Range.{Range}
@@ -15,7 +14,7 @@ use Rattle.frame.specs.declared.kinds.Mark.TheVariants.{Fresh}
 use Rattle.hold.specs.Meaning.{Cell, copied, size}
 use Rattle.notation.proofs.Digits.{length_digits}
 use Rattle.notation.specs.Digits.{digits}
-use Rattle.line.specs.Steps.{bytes_of, range, retrieval}
+use Rattle.line.specs.Steps.{bytes_of, retrieval}
 use lib.Seq.{take-append_seam}
 
 -- a heading whose values fit, over a text that fits, is always written, if the output is long enough

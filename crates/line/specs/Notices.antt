@@ -1,5 +1,5 @@
 -- What frames say to a line, and what that does to its book.
-use Rattle.std.specs.Prelude.{ℕ, Bool, List, Some, None, Ok, Err, Option, Result}
+use Rattle.std.specs.Prelude.{ℕ, Bool, Some, None, Ok, Err, Option, Result}
 use Rattle.book.specs.Ledger.{Ledger, closed, fate_of}
 use Rattle.book.specs.declared.Fate.{Fate}
 use Rattle.frame.specs.Arrivals.{judged, message_of}

@@ -1,5 +1,7 @@
 // The line: six calls that bring the exchange's numbered messages to the bank in order, ask for what is lost,
 // and post our trades.
+#![tactic(auto)]
+
 ghost use Rattle.std.specs.Prelude.{◌+◌, ◌≤◌};
 
 use book::{Account, Fate};

@@ -1,15 +1,14 @@
 -- What an arrival does to a run.
-use Rattle.std.proofs.Common.{◌≡◌, ℕ, ◌+◌, ◌%◌, ◌<◌, ◌≤◌, max, Bool, true, false, cond, not, ◌&&◌, ◌||◌, eqb, ltb, leb, ◌⊎◌, List, [], ◌∷◌, length, set, is_some, Some, None, Ok, Err, Option, Result, sym, refl, ap, ◌∙◌, subst, ap₂, inl, inr, ⊎_elim, mod-lt, arith}
+use Rattle.std.proofs.Common.{◌≡◌, ℕ, ◌+◌, ◌%◌, ◌<◌, ◌≤◌, max, true, false, eqb, ltb, ◌⊎◌, List, ◌∷◌, length, set, is_some, Some, None, Ok, Err, Option, Result, sym, refl, ap, ◌∙◌, subst, inl, inr, ⊎_elim, mod-lt, arith}
 use Rattle.std.proofs.lemmas.Bool.{both_ways, or_cases, or_parts, ltb-true, ltb-false, eqb-true, eqb-false, cases_lt, cases_Bool, lt-ltb}
 use Rattle.frame.specs.declared.arrival.Arrival.{Arrival as Judged}
 use Rattle.frame.specs.declared.faults.LineFault.{LineFault}
 use Rattle.hold.proofs.Cells.{stores_gives, stores_when}
-use Rattle.hold.specs.Meaning.{Frame, bytes_held, cell_at, stores}
+use Rattle.hold.specs.Meaning.{Frame, stores}
 use Rattle.line.proofs.Judgements.{taken}
-use Rattle.line.specs.Notices.{fate_said, judgement, notice_of}
-use Rattle.line.specs.Steps.{State, arrival_delivery, arrival_result, arrival_state, holds, moved_to, osn, parks, repeats, wait_settled}
+use Rattle.line.specs.Notices.{fate_said, judgement}
+use Rattle.line.specs.Steps.{State, arrival_delivery, arrival_result, arrival_state, holds, moved_to, parks, repeats, wait_settled}
 use Rattle.line.specs.declared.Arrived.TheVariants.{Delivered, Parked, Noted, Repeated}
-use Rattle.line.specs.declared.Delivery.{Delivery}
 use Rattle.line.specs.declared.Settings.{Settings}
 use Rattle.runs.proofs.Clocks.{Patient, waiting_parts, waiting_from}
 use Rattle.runs.proofs.Knowing.{quiet_from, known_noted, known_parked, known_in_turn}

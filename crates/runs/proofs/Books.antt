@@ -1,21 +1,17 @@
 -- The book and the trades of a run.
-use Rattle.std.proofs.Common.{◌≡◌, ℕ, zero, suc, ◌+◌, ◌%◌, ◌<◌, ◌≤◌, Bool, true, false, cond, not, ◌&&◌, ◌||◌, eqb, ◌⊎◌, List, [], ◌∷◌, length, get_or, set, replicate, Some, None, Option, sym, refl, ap, ◌∙◌, subst, inl, inr, ⊎_elim, mod-lt, arith, length-set, get_or-set_other, get_or-set_same}
-use Rattle.std.proofs.lemmas.List.{get_or_past, length-replicate}
-use Rattle.std.proofs.lemmas.Bool.{both_ways, and_parts, and_right, or_cases, eqb-true, cases_eq, cases_lt, cases_Bool, eq-eqb, ne_eqb}
+use Rattle.std.proofs.Common.{◌≡◌, ℕ, zero, suc, ◌+◌, ◌%◌, ◌<◌, ◌≤◌, Bool, true, false, cond, not, ◌&&◌, ◌||◌, eqb, List, ◌∷◌, length, get_or, set, Some, None, Option, sym, refl, ap, ◌∙◌, subst, ⊎_elim, arith, length-set, get_or-set_other, get_or-set_same}
+use Rattle.std.proofs.lemmas.Bool.{both_ways, and_parts, and_right, eqb-true, cases_eq, cases_Bool, eq-eqb, ne_eqb}
 use Rattle.std.proofs.lemmas.Bool.Decides.{nat_tests}
-use Rattle.book.proofs.Ledgers.{one_fewer, one_more, place_inside, stands}
-use Rattle.book.specs.Ledger.{Ledger, blank, closed_as, entry_at, fate_told, has, is_trade, place_of, with_next, without}
+use Rattle.book.proofs.Ledgers.{one_fewer, place_inside, stands}
+use Rattle.book.specs.Ledger.{Ledger, closed_as, entry_at, fate_told, has, is_trade, place_of, without}
 use Rattle.book.specs.declared.Fate.{Fate}
 use Rattle.book.specs.declared.Fate.TheVariants.{Confirmed as FateConfirmed, Rejected as FateRejected, Unknown}
 use Rattle.book.specs.declared.OpenTrade.{OpenTrade}
 use Rattle.frame.specs.declared.texts.Answer.{Answer}
 use Rattle.frame.specs.declared.texts.Verdict.{Verdict}
 use Rattle.frame.specs.declared.texts.Verdict.TheVariants.{Confirmed, Rejected}
-use Rattle.hold.proofs.Cells.{none_at}
 use Rattle.hold.specs.Meaning.{Frame}
 use Rattle.line.specs.Notices.{closed_said, fate_said, notice_of}
-use Rattle.table.proofs.Places.{taken_empty}
-use Rattle.table.specs.Places.{taken_places}
 use Rattle.runs.specs.Tie.{Booked}
 use Rattle.runs.specs.Words.{Event, History, Effect, comes, hands, keeps, hears, reports, asks, enters, nothing, effect, names, closes_it, is_open, posted, confirmed, rejected, one_if_confirmed, one_if_rejected, open_to, opened, fate, was_posted, answered}
 

@@ -1,7 +1,6 @@
 -- The wait as the line counts it, and the ticks of the wait as a run has them.
-use Rattle.std.proofs.Common.{◌≡◌, ℕ, ◌+◌, ◌-◌, ◌*◌, ◌<◌, ◌≤◌, Bool, true, false, not, ◌&&◌, eqb, ltb, [], ◌∷◌, is_some, None, sym, refl, ap, ◌∙◌, ⊎_elim, mul-le-mul_right, add-mul, one-mul, arith}
+use Rattle.std.proofs.Common.{◌≡◌, ℕ, ◌+◌, ◌-◌, ◌*◌, ◌<◌, ◌≤◌, Bool, true, false, not, ltb, [], ◌∷◌, is_some, None, sym, refl, ap, ◌∙◌, ⊎_elim, mul-le-mul_right, add-mul, one-mul, arith}
 use Rattle.std.proofs.lemmas.Bool.{and_parts, ltb-true, not-true, cases_Bool, eq-eqb, ne_eqb, lt-ltb}
-use Rattle.line.specs.Settings.{Ranges}
 use Rattle.line.specs.Steps.{State, waits, tries_for, left_for}
 use Rattle.line.specs.declared.Settings.{Settings}
 use Rattle.runs.proofs.Shelves.{none_of}

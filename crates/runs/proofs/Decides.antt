@@ -1,15 +1,14 @@
 -- The law decides every answer and every byte.
-use Rattle.std.proofs.Common.{◌≡◌, ℕ, ◌+◌, ◌<◌, ◌≤◌, Bool, true, false, List, [], ◌∷◌, ◌++◌, length, drop, is_some, Some, None, Ok, Err, Option, Result, sym, refl, ap, ◌∙◌, subst, ap₂, ⊎_elim, arith}
+use Rattle.std.proofs.Common.{◌≡◌, ℕ, ◌+◌, ◌<◌, ◌≤◌, true, List, [], ◌∷◌, ◌++◌, length, drop, is_some, Some, None, Ok, Err, Option, Result, sym, refl, ap, ◌∙◌, subst, ap₂, ⊎_elim, arith}
 use Rattle.std.proofs.lemmas.Bool.{both_ways, cases_eq, cases_lt, cases_Bool}
 use Rattle.frame.specs.declared.arrival.Arrival.{Arrival as Judged}
 use Rattle.frame.specs.declared.faults.LineFault.{LineFault}
 use Rattle.hold.specs.Meaning.{Frame}
 use Rattle.line.proofs.Compositions.{one_composition}
-use Rattle.line.specs.Composing.{Composes, Composition, frame_size}
+use Rattle.line.specs.Composing.{Composition, frame_size}
 use Rattle.line.specs.Notices.{judgement}
 use Rattle.line.specs.Steps.{osn, range, retrieval}
 use Rattle.line.specs.declared.Settings.{Settings}
-use Rattle.trade.specs.Deals.{Deal}
 use Rattle.runs.proofs.Clocks.{spent_mono, spent_next}
 use Rattle.runs.proofs.Shelves.{none_of}
 use Rattle.runs.specs.Law.{Alike, AllRight, ArrivalRight, Clock, Decided, FetchRight, InReach, PostingRight, Right, Room, Run, StatusRight, TakeRight, TickRight}

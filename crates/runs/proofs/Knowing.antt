@@ -1,5 +1,5 @@
 -- Delivery: what ties due, top and the places to a run, and how each effect keeps it. No wait is in it.
-use Rattle.std.proofs.Common.{◌≡◌, ℕ, zero, suc, ◌+◌, ◌-◌, ◌%◌, ◌<◌, ◌≤◌, max, Bool, true, false, cond, ◌&&◌, ◌||◌, eqb, leb, List, [], ◌∷◌, ◌++◌, length, set, Some, None, Option, sym, refl, ap, ◌∙◌, subst, ⊎_elim, arith, length-set}
+use Rattle.std.proofs.Common.{◌≡◌, ℕ, zero, suc, ◌+◌, ◌-◌, ◌%◌, ◌<◌, ◌≤◌, max, cond, ◌&&◌, eqb, leb, List, [], ◌∷◌, ◌++◌, length, set, Some, None, Option, sym, refl, ap, ◌∙◌, subst, ⊎_elim, arith, length-set}
 use Rattle.std.proofs.lemmas.Bool.{both_ways, and_right, and_parts, or_cases, or_from, leb-true, cases_eq, cases_lt, eq-eqb, ne_eqb, lt-leb}
 use Rattle.book.specs.declared.Fate.{Fate}
 use Rattle.hold.specs.Meaning.{Cells, Frame}
@@ -9,7 +9,7 @@ use Rattle.runs.proofs.Shelves.{not_both, found_here, find_here, find_there, fin
 use Rattle.runs.proofs.Showing.{shows_on, shows_over, shows_parked, shows_taken}
 use Rattle.runs.specs.Law.{InOrder}
 use Rattle.runs.specs.Tie.{Known, Shows}
-use Rattle.runs.specs.Words.{Event, History, Shelf, find, erase, settled, settles, counting, due, top, heard, parked, parked_by, delivered, delivered_by, Effect, comes, hands, keeps, hears, reports, asks, enters, nothing, effect, missing, reported_by, admitted, admitted_by}
+use Rattle.runs.specs.Words.{Event, History, find, erase, settled, counting, due, top, parked, delivered, Effect, comes, hands, keeps, hears, reports, asks, enters, nothing, effect, missing, admitted}
 
 -- a call that changes no word of delivery
 pub record Quiet (x : Settings) (e : Event) (h : History) : Type 0 where

@@ -1,7 +1,6 @@
 -- What a posting does to a run.
-use Rattle.std.proofs.Common.{◌≡◌, ℕ, zero, suc, ◌+◌, ◌%◌, ◌<◌, ◌≤◌, Bool, true, false, cond, not, ◌&&◌, ◌||◌, eqb, leb, List, [], ◌∷◌, ◌++◌, length, get_or, drop, set, is_some, Some, None, Ok, Err, Option, Result, sym, refl, ap, ◌∙◌, subst, ap₂, ⊎_elim, arith, length-set}
+use Rattle.std.proofs.Common.{◌≡◌, ℕ, zero, suc, ◌+◌, ◌%◌, ◌<◌, ◌≤◌, true, false, ◌||◌, eqb, leb, List, ◌∷◌, ◌++◌, length, get_or, drop, is_some, Some, None, Ok, Err, Option, sym, refl, ap, ◌∙◌, subst, ap₂, ⊎_elim, arith, length-set}
 use Rattle.std.proofs.lemmas.Bool.{both_ways, or_parts, leb-true, leb-false, or_cases, eqb-true, cases_eq, cases_Bool, eq-eqb, ne_eqb}
-use Rattle.std.proofs.lemmas.Bool.Decides.{nat_tests}
 use Rattle.book.proofs.Ledgers.{one_more, place_inside, stands}
 use Rattle.book.specs.Ledger.{Ledger, entry_at, has, is_trade, no_place, place_of, used_up, with_next}
 use Rattle.book.specs.declared.OpenTrade.{OpenTrade}
@@ -9,7 +8,6 @@ use Rattle.frame.specs.declared.faults.LineFault.{LineFault}
 use Rattle.frame.specs.declared.faults.LineFault.TheVariants.{InTrade, NoBookPlace, Short, UsedUp}
 use Rattle.line.specs.Composing.{Composition, frame_size, post_ledger, post_output, post_result, trade_frame}
 use Rattle.line.specs.Steps.{State}
-use Rattle.line.specs.declared.Posted.{Posted}
 use Rattle.line.specs.declared.Settings.{Settings}
 use Rattle.notation.specs.declared.refusals.FieldFault.{FieldFault}
 use Rattle.trade.specs.Deals.{Deal}

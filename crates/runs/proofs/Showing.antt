@@ -1,15 +1,15 @@
 -- The places of a hold and the frames parked above due.
-use Rattle.std.proofs.Common.{◌≡◌, ℕ, zero, suc, ◌+◌, ◌*◌, ◌/◌, ◌%◌, ◌<◌, ◌≤◌, Bool, true, false, ◌&&◌, ltb, leb, List, [], ◌∷◌, length, get_or, set, is_some, Some, None, Option, sym, refl, ap, ◌∙◌, subst, ⊎_elim, add-zero, mod-lt, mul-le-mul_left, mul-one, mul-add, arith, length-set, get_or-set_other, get_or-set_same}
+use Rattle.std.proofs.Common.{◌≡◌, ℕ, zero, suc, ◌+◌, ◌*◌, ◌/◌, ◌%◌, ◌<◌, ◌≤◌, ◌∷◌, length, get_or, set, is_some, Some, None, sym, refl, ap, ◌∙◌, subst, ⊎_elim, add-zero, mod-lt, mul-le-mul_left, mul-one, mul-add, arith, length-set, get_or-set_other, get_or-set_same}
 use native.Mathlib.Nat.{add-mod_right, mod-add-div}
 use Rattle.std.proofs.lemmas.Bool.{cases_eq, cases_lt, le-leb, lt-leb, le-ltb, lt-ltb}
 use Rattle.hold.proofs.Cells.{bytes_set}
-use Rattle.hold.specs.Meaning.{Cells, Frame, bytes_held, cell_at, size}
+use Rattle.hold.specs.Meaning.{Cells, Frame, size}
 use Rattle.line.specs.Steps.{State, holds}
 use Rattle.table.proofs.Places.{taken_set}
-use Rattle.table.specs.Places.{one_if_taken, taken_places}
+use Rattle.table.specs.Places.{one_if_taken}
 use Rattle.runs.proofs.Shelves.{find_here, find_there, find_erased, find_erased_other, once_erased, weigh_erased, length_erased}
-use Rattle.runs.specs.Tie.{Once, Shows}
-use Rattle.runs.specs.Words.{Shelf, find, erase, weigh}
+use Rattle.runs.specs.Tie.{Shows}
+use Rattle.runs.specs.Words.{Shelf, find, erase}
 
 -- two numbers less than P apart have two places
 quotients : (P q r : ℕ) → q < r → P * q + P ≤ P * r

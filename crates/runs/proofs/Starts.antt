@@ -1,19 +1,18 @@
 -- The run of no call.
-use Rattle.std.proofs.Common.{◌≡◌, ℕ, ◌+◌, ◌%◌, ◌<◌, ◌≤◌, Bool, true, false, ◌&&◌, ltb, List, [], length, replicate, Some, None, Option, sym, refl, ap, ◌∙◌, subst, arith}
+use Rattle.std.proofs.Common.{◌≡◌, ℕ, ◌+◌, ◌%◌, true, false, ltb, [], length, replicate, None, Option, sym, refl, ap, arith}
 use Rattle.std.proofs.lemmas.List.{length-replicate}
 use Rattle.std.proofs.lemmas.Bool.{and_left, both_ways, le-ltb}
-use Rattle.book.specs.Ledger.{Ledger, blank, is_trade}
+use Rattle.book.specs.Ledger.{blank, is_trade}
 use Rattle.book.specs.declared.OpenTrade.{OpenTrade}
 use Rattle.hold.proofs.Cells.{bytes_none, none_at}
 use Rattle.hold.specs.Meaning.{Frame}
 use Rattle.line.specs.Settings.{first}
-use Rattle.line.specs.Steps.{State, start}
+use Rattle.line.specs.Steps.{start}
 use Rattle.line.specs.declared.Settings.{Settings}
 use Rattle.table.proofs.Places.{taken_empty}
 use Rattle.runs.proofs.Fetching.{fetch_calm}
-use Rattle.runs.specs.Law.{Clock}
-use Rattle.runs.specs.Tie.{Booked, Known, Shows, Stands, Tells}
-use Rattle.runs.specs.Words.{settled, due, top, parked, waiting, ticks, delivered, missing, admitted, is_open, posted, confirmed, rejected, open_to, opened, was_posted, answered}
+use Rattle.runs.specs.Tie.{Booked, Stands, Tells}
+use Rattle.runs.specs.Words.{settled, due, top, parked, waiting, delivered, missing, admitted, is_open, posted, confirmed, rejected, open_to, opened, was_posted, answered}
 
 calm_start : (x : Settings) → waiting x [] ≡ false
 unfolding settled due top parked waiting

@@ -1,10 +1,10 @@
 -- What a take does to a run.
-use Rattle.std.proofs.Common.{◌≡◌, ℕ, ◌+◌, ◌%◌, ◌<◌, ◌≤◌, Bool, true, false, ◌&&◌, ltb, leb, List, [], ◌∷◌, ◌++◌, length, drop, set, Some, None, Ok, Err, Option, sym, refl, ap, ◌∙◌, subst, ap₂, ⊎_elim, arith}
+use Rattle.std.proofs.Common.{◌≡◌, ℕ, ◌+◌, ◌%◌, ◌<◌, ◌≤◌, true, ltb, leb, List, ◌∷◌, ◌++◌, length, drop, set, Some, None, Ok, Err, sym, refl, ap, ◌∙◌, subst, ap₂, ⊎_elim, arith}
 use lib.Seq.{take-append_seam}
 use Rattle.std.proofs.lemmas.Bool.{and_parts, and_cases, leb-true, leb-false, ltb-false, cases_lt, cases_Bool}
 use Rattle.frame.specs.declared.faults.LineFault.TheVariants.{NotHeld, Short}
 use Rattle.hold.specs.Meaning.{Frame}
-use Rattle.line.specs.Steps.{State, at_hand, cell_due, fits, holds, moved_to, take_output, take_result, take_state, wait_settled}
+use Rattle.line.specs.Steps.{State, at_hand, cell_due, holds, moved_to, take_output, take_result, take_state, wait_settled}
 use Rattle.line.specs.declared.Settings.{Settings}
 use Rattle.runs.proofs.Clocks.{Patient}
 use Rattle.runs.proofs.Knowing.{quiet_from, known_taken}

@@ -1,5 +1,5 @@
 -- A run and the line and hold that it leaves: what each kind of call does to both.
-use Rattle.std.proofs.Common.{◌≡◌, ℕ, Bool, true, false, ◌∷◌, sym, refl, ◌∙◌}
+use Rattle.std.proofs.Common.{◌≡◌, ℕ, true, false, ◌∷◌, sym, refl, ◌∙◌}
 use Rattle.line.specs.Steps.{State, waits, wait_settled}
 use Rattle.line.specs.declared.Settings.{Settings}
 use Rattle.runs.proofs.Clocks.{Patient, waits_waiting, clock_moved, clock_kept, clock_stays}

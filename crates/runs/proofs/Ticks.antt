@@ -1,5 +1,5 @@
 -- What a tick and a fetch do to a run.
-use Rattle.std.proofs.Common.{◌≡◌, ℕ, zero, suc, ◌+◌, ◌-◌, ◌<◌, ◌≤◌, Bool, true, false, cond, not, ◌&&◌, ◌||◌, eqb, ltb, leb, ◌⊎◌, List, [], ◌∷◌, ◌++◌, length, drop, is_some, Some, None, Ok, Err, sym, refl, ap, ◌∙◌, subst, inl, inr, ⊎_elim, arith}
+use Rattle.std.proofs.Common.{◌≡◌, ℕ, zero, suc, ◌+◌, ◌-◌, ◌<◌, ◌≤◌, Bool, true, false, eqb, ltb, leb, ◌⊎◌, List, ◌∷◌, ◌++◌, length, drop, Some, None, Ok, Err, sym, refl, ap, ◌∙◌, subst, inl, inr, ⊎_elim, arith}
 use Rattle.std.proofs.lemmas.Bool.{and_from, and_left, or_from, or_left, both_ways, leb-true, leb-false, ltb-true, ltb-false, cases_eq, cases_lt, cases_Bool, eq-eqb, ne_eqb, lt-ltb, lt-leb}
 use Rattle.frame.specs.declared.faults.LineFault.TheVariants.{NoFetchDue, Short}
 use Rattle.line.proofs.Ends.{extended_on, extended_past, extended_held, extended_none}
@@ -13,7 +13,7 @@ use Rattle.runs.proofs.Showing.{holds_parked}
 use Rattle.runs.proofs.Telling.{tells_quiet, tells_moved, quiet_waiting}
 use Rattle.runs.specs.Law.{Clock, FetchRight, Run, TickRight}
 use Rattle.runs.specs.Tie.{Tells}
-use Rattle.runs.specs.Words.{tick, fetch, Event, History, asks, nothing, find, due, top, parked, waiting, ticks, spent, whole_wait, fetch_is_due}
+use Rattle.runs.specs.Words.{tick, fetch, Event, History, asks, nothing, find, due, parked, waiting, ticks, spent, whole_wait, fetch_is_due}
 use Rattle.runs.specs.declared.Reply.{Reply}
 use Rattle.runs.specs.declared.Reply.TheVariants.{Tick, Fetch}
 

@@ -1,17 +1,10 @@
 -- Reports are on time: a number waited at is reported missing on the last tick of its wait, and on no other.
-use Rattle.std.proofs.Common.{◌≡◌, ℕ, ◌+◌, ◌<◌, ◌≤◌, Bool, true, false, ◌&&◌, leb, List, [], ◌∷◌, Some, None, Ok, Err, Option, Result, sym, refl, ap, ◌∙◌, subst, ⊎_elim, arith}
+use Rattle.std.proofs.Common.{◌≡◌, ℕ, ◌+◌, ◌<◌, ◌≤◌, true, false, leb, List, ◌∷◌, None, Ok, Err, refl, ap, ◌∙◌, ⊎_elim, arith}
 use Rattle.std.proofs.lemmas.Bool.{both_ways, and_from, cases_lt, cases_Bool, le-leb}
-use Rattle.frame.specs.declared.faults.LineFault.{LineFault}
-use Rattle.line.specs.Steps.{range}
-use Rattle.line.specs.declared.Arrived.{Arrived}
 use Rattle.line.specs.declared.Arrived.TheVariants.{Delivered, Parked, Noted, Repeated}
-use Rattle.line.specs.declared.Delivery.{Delivery}
-use Rattle.line.specs.declared.Posted.{Posted}
 use Rattle.line.specs.declared.Settings.{Settings}
-use Rattle.line.specs.declared.Status.{Status as Stand}
-use Rattle.frame.specs.declared.range.Range.{Range}
 use Rattle.runs.proofs.Clocks.{Patient, brief}
-use Rattle.runs.specs.Law.{Clock, OnTime, Run, TickRight}
+use Rattle.runs.specs.Law.{Clock, OnTime, TickRight}
 use Rattle.runs.specs.Words.{Call, Event, History, effect, effect_of, reported_by, due, waiting, ticking, ticks, whole_wait}
 use Rattle.runs.specs.declared.Reply.{Reply}
 use Rattle.runs.specs.declared.Reply.TheVariants.{Arrival, Take, Tick, Fetch, Status, Posting}

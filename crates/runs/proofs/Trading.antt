@@ -1,9 +1,8 @@
 -- The line's calls, as the book has them.
-use Rattle.std.proofs.Common.{◌≡◌, ℕ, ◌+◌, Bool, true, false, cond, ◌&&◌, ◌||◌, eqb, ltb, leb, List, [], ◌∷◌, ◌++◌, length, drop, is_some, Some, None, Ok, Err, Option, Result, sym, refl, ap, ◌∙◌, subst, ⊎_elim, arith}
+use Rattle.std.proofs.Common.{◌≡◌, ℕ, ◌+◌, true, false, cond, eqb, ltb, leb, List, ◌∷◌, ◌++◌, length, drop, is_some, Some, None, Ok, Err, Option, Result, sym, refl, ap, subst, ⊎_elim}
 use lib.Seq.{take-append_seam}
 use Rattle.std.proofs.lemmas.Bool.{both_ways, and_parts, cases_Bool}
-use Rattle.book.specs.Ledger.{Ledger, fate_of, fate_told, has}
-use Rattle.book.specs.declared.Fate.{Fate}
+use Rattle.book.specs.Ledger.{Ledger, fate_told, has}
 use Rattle.book.specs.declared.Fate.TheVariants.{Unknown}
 use Rattle.frame.specs.declared.arrival.Arrival.{Arrival as Judged}
 use Rattle.frame.specs.declared.faults.LineFault.{LineFault}
@@ -11,15 +10,15 @@ use Rattle.frame.specs.declared.faults.LineFault.TheVariants.{NoFetchDue, NotHel
 use Rattle.frame.specs.declared.texts.Answer.{Answer}
 use Rattle.hold.specs.Meaning.{Cell, Frame}
 use Rattle.line.proofs.Judgements.{taken}
-use Rattle.line.specs.Notices.{closed_said, fate_said, judgement, notice_of}
-use Rattle.line.specs.Steps.{State, arrival_delivery, arrival_ledger, arrival_result, at_hand, bytes_of, cell_due, fetch_output, fetch_result, holds, idle, may_fetch, osn, parks, range, repeats, retrieval, run_end, take_ledger, take_output, take_result, tick_result}
+use Rattle.line.specs.Notices.{closed_said, fate_said, judgement}
+use Rattle.line.specs.Steps.{State, arrival_delivery, arrival_ledger, arrival_result, at_hand, bytes_of, cell_due, fetch_output, fetch_result, idle, may_fetch, parks, range, repeats, retrieval, run_end, take_ledger, take_output, take_result, tick_result}
 use Rattle.line.specs.declared.Arrived.TheVariants.{Delivered, Parked, Noted, Repeated}
 use Rattle.line.specs.declared.Settings.{Settings}
 use Rattle.line.specs.declared.Status.{Status as Stand}
 use Rattle.runs.proofs.Books.{Gives, booked_delivered, booked_idly, gives_comes, gives_hands}
 use Rattle.runs.specs.Law.{delivery}
 use Rattle.runs.specs.Tie.{Booked}
-use Rattle.runs.specs.Words.{Call, arrival, take, tick, fetch, status, Event, History, comes, hands, keeps, hears, reports, asks, nothing, is_open, fate}
+use Rattle.runs.specs.Words.{Call, arrival, take, tick, fetch, status, Event, History, hands, keeps, hears, reports, asks, nothing, is_open, fate}
 use Rattle.runs.specs.declared.Reply.{Reply}
 use Rattle.runs.specs.declared.Reply.TheVariants.{Arrival, Take, Tick, Fetch, Status}
 

@@ -1,5 +1,5 @@
 -- The calls of a run, as the code has them.
-use Rattle.std.proofs.Common.{◌≡◌, ℕ, ◌+◌, ◌<◌, ◌≤◌, Bool, true, false, cond, eqb, List, [], ◌∷◌, ◌++◌, length, get_or, take, drop, set, Some, None, Ok, Err, Option, Result, sym, refl, ap, ◌∙◌, subst, arith, length-take, take_all, Bor}
+use Rattle.std.proofs.Common.{◌≡◌, ℕ, ◌+◌, ◌<◌, ◌≤◌, cond, eqb, List, [], ◌∷◌, ◌++◌, length, get_or, take, drop, set, Ok, Err, Result, sym, refl, ap, ◌∙◌, arith, length-take, take_all, Bor}
 use Rattle.std.proofs.lemmas.List.{take_more, take_more_set, drop_more, drop-set-lt}
 use Rattle.book.specs.Ledger.{Ledger, has}
 use Rattle.frame.specs.declared.arrival.Arrival.{Arrival as Judged}
@@ -24,9 +24,9 @@ use Rattle.runs.proofs.Ticks.{fetch_goes, tick_goes}
 use Rattle.runs.proofs.Timely.{other_on_time, tick_on_time}
 use Rattle.runs.proofs.Trading.{arrival_booked, fate_same, fetch_booked, status_booked, take_booked, tick_booked}
 use Rattle.runs.specs.Law.{Law, StatusRight}
-use Rattle.runs.specs.Tie.{Booked, Stands, Tells}
+use Rattle.runs.specs.Tie.{Stands}
 use Rattle.runs.specs.Told.{call_of, event_of, told}
-use Rattle.runs.specs.Words.{Event, History, nothing, is_open, status, posting}
+use Rattle.runs.specs.Words.{Event, History, nothing, is_open}
 use Rattle.runs.specs.declared.Reply.{Reply}
 use Rattle.runs.specs.declared.Reply.TheVariants.{Arrival as ArrivalReply, Take as TakeReply, Tick as TickReply, Fetch as FetchReply, Status as StatusReply, Posting as PostingReply}
 use Rattle.runs.specs.declared.Request.{Request}

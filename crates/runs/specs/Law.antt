@@ -1,6 +1,6 @@
 -- The law of a run: what each call answers and writes after what went before it, and what holds of the whole run.
 -- x is what the line was set up with, P the places of its hold and C their most bytes, U the places of its book.
-use Rattle.std.specs.Prelude.{◌≡◌, ℕ, ◌+◌, ◌<◌, ◌≤◌, Bool, true, false, not, ◌&&◌, ◌⊎◌, List, [], ◌∷◌, ◌++◌, length, drop, is_some, Some, None, Ok, Err}
+use Rattle.std.specs.Prelude.{◌≡◌, ℕ, ◌+◌, ◌<◌, ◌≤◌, true, false, not, ◌&&◌, ◌⊎◌, List, [], ◌∷◌, ◌++◌, length, drop, is_some, Some, None, Ok, Err}
 use Rattle.frame.specs.declared.arrival.Arrival.{Arrival as Judged}
 use Rattle.frame.specs.declared.faults.LineFault.{LineFault}
 use Rattle.frame.specs.declared.faults.LineFault.TheVariants.{InTrade, NoBookPlace, NoFetchDue, NotHeld, Short, UsedUp}

@@ -1,5 +1,5 @@
 -- What ties a run to the line, the hold and the book that it leaves.
-use Rattle.std.specs.Prelude.{◌≡◌, ℕ, ◌+◌, ◌%◌, ◌<◌, ◌≤◌, Bool, true, false, not, ◌&&◌, List, [], ◌∷◌, length, Some, None, Option, slice_index_or}
+use Rattle.std.specs.Prelude.{◌≡◌, ℕ, ◌+◌, ◌%◌, ◌<◌, ◌≤◌, true, false, not, ◌&&◌, [], ◌∷◌, length, Some, None, slice_index_or}
 use Rattle.book.specs.Ledger.{Ledger, has}
 use Rattle.book.specs.declared.OpenTrade.{OpenTrade}
 use Rattle.hold.specs.Meaning.{Cells, Frame, bytes_held, cell_at}

@@ -1,13 +1,12 @@
 -- The history that a list of turns tells, before and after its calls.
-use Rattle.std.specs.Prelude.{ℕ, List, [], ◌∷◌, length, vec_items}
-use Rattle.book.specs.View.{entries_of, ledger}
+use Rattle.std.specs.Prelude.{ℕ, List, [], ◌∷◌, vec_items}
+use Rattle.book.specs.View.{ledger}
 use Rattle.book.specs.declared.Book.{Book}
 use Rattle.hold.specs.Meaning.{Cells}
 use Rattle.line.specs.View.{view}
 use Rattle.line.specs.declared.Line.{Line}
 use Rattle.line.specs.declared.Settings.{Settings}
 use Rattle.trade.specs.Views.{view as deal-of}
-use Rattle.runs.specs.Law.{Law}
 use Rattle.runs.specs.Tie.{Stands}
 use Rattle.runs.specs.Words.{Call, arrival, take, tick, fetch, status, posting, Event, History}
 use Rattle.runs.specs.declared.Request.{Request}

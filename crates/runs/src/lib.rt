@@ -1,4 +1,6 @@
 // Runs: lists of calls on a line from its set-up on, and the law that every such list keeps.
+#![tactic(auto)]
+
 use frame::faults::LineFault;
 use frame::range::Range;
 use line::{Arrived, Delivery, Posted, Status};

@@ -1,4 +1,6 @@
 // ticket: tells an MT 511 text in plain words, or makes one from name=value words
+#![tactic(auto)]
+
 mod made;
 mod numbers;
 mod refused;

@@ -1,5 +1,5 @@
 -- The worked readings hold.
-use Rattle.std.proofs.Common.{◌≡◌, ℕ, ◌+◌, true, false, List, [], ◌∷◌, ◌++◌, pos, Some, None, codes, decimal, sym, refl, ap, ◌∙◌, arith}
+use Rattle.std.proofs.Common.{◌≡◌, ℕ, true, false, List, [], ◌∷◌, ◌++◌, pos, Some, None, codes, decimal, sym, refl, ap, ◌∙◌, arith}
 use Rattle.costs.specs.Amounts.{Signed}
 use Rattle.costs.specs.Costs.{ListedCharge}
 use Rattle.costs.specs.declared.brokerage.Brokerage.TheVariants.{Agreed, Free, FreeOfAll, Half}

@@ -1,5 +1,5 @@
 -- What writing a trade answers, and the bytes that it leaves.
-use Rattle.std.specs.Prelude.{◌≡◌, ℕ, ◌+◌, ◌<◌, ◌≤◌, List, [], ◌∷◌, ◌++◌, length, drop, Some, None, Ok, Err, Option, Result}
+use Rattle.std.specs.Prelude.{◌≡◌, ℕ, ◌<◌, ◌≤◌, List, [], ◌∷◌, ◌++◌, length, drop, Some, None, Ok, Err, Option, Result}
 use Rattle.notation.specs.Refusals.{refused, field_refusal}
 use Rattle.notation.specs.declared.refusals.Layer.TheVariants.{Line as LineLayer}
 use Rattle.notation.specs.declared.refusals.Refusal.{Refusal}

@@ -1,4 +1,4 @@
-use Rattle.std.proofs.Common.{◌≡◌, suc, ◌+◌, ◌-◌, ◌<◌, ◌≤◌, sym, refl, ap, ◌∙◌, arith}
+use Rattle.std.proofs.Common.{◌≡◌, ◌+◌, ◌-◌, sym, refl, ◌∙◌, arith}
 use Rattle.line.specs.Steps.{extended, run_end}
 use Rattle.line.specs.View.{view}
 use Rattle.line.proofs.Ends.{extended_on, extended_past, extended_held, extended_none}

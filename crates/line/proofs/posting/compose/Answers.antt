@@ -1,4 +1,4 @@
-use Rattle.std.proofs.Common.{◌≡◌, Err, sym, subst}
+use Rattle.std.proofs.Common.{Err, sym, subst}
 use Rattle.trade.specs.Views.{view}
 use Rattle.line.specs.Composing.{Composed}
 use Rattle.line.proofs.Compositions.{composed_fault, composed_text}

@@ -1,4 +1,4 @@
-use Rattle.std.proofs.Common.{◌≡◌, sym, refl, ap, ◌∙◌}
+use Rattle.std.proofs.Common.{ap}
 use Rattle.line.specs.Notices.{notice_of, noticed}
 use Rattle.line.proofs.taking.read_notice.Goals as goal
 

@@ -1,4 +1,4 @@
-use Rattle.std.proofs.Common.{◌≡◌, leb, length, sym, ap, ◌∙◌, rules}
+use Rattle.std.proofs.Common.{leb, length, sym, ◌∙◌, rules}
 use Rattle.line.proofs.Outputs.{retrieved, was_short, was_written}
 use Rattle.line.proofs.waiting.write_retrieval.Goals as goal
 
