@@ -2,7 +2,7 @@
 ghost use Rattle.std.specs.Prelude.{◌≡◌, ℕ, ◌^◌, ◌<◌, ◌||◌, List, is_some};
 ghost use Rattle.costs.specs.Amounts.{Measures};
 ghost use Rattle.costs.specs.Costs.{row71d, Commissions, CutCharges, CodeOf, Told, Limits, commission_pieces};
-ghost use Rattle.fields.specs.Table.{commission as commissionForm};
+ghost use Rattle.fields.specs.Table.{commission as commission_form};
 ghost use Rattle.pieces.specs.Notation.{print};
 ghost use Rattle.pieces.specs.Rows.{Reads, Checks, text_of};
 ghost use Rattle.pieces.specs.Scratches.{Grown};
@@ -117,7 +117,7 @@ pub fn read_charges(s: &[u8]) -> Result<Charges, Why>
 }
 
 fn write_commission(out: &mut Scratch, commission: Commission)
-    ensures { Grown out.old out.new (print commissionForm (commission_pieces commission)) }
+    ensures { Grown out.old out.new (print commission_form (commission_pieces commission)) }
 {
     match commission {
         Commission::Amount(z) => {

@@ -1,6 +1,6 @@
+// Scenarios that a hold has to pass, run on the three holds.
 #![tactic(auto)]
 
-// Scenarios that a hold has to pass, run on the three holds.
 #[cfg(test)]
 mod tests {
     use hold::empty::Empty;

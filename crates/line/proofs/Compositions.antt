@@ -17,7 +17,7 @@ use Rattle.frame.specs.declared.kinds.Kind.TheVariants.{Trade}
 use Rattle.frame.specs.declared.kinds.Mark.TheVariants.{Fresh}
 use Rattle.frame.specs.declared.write.Heading.{Heading}
 use Rattle.line.proofs.Outputs.{laid, length_frame}
-use Rattle.line.proofs.Outputs.Laid.{none, whole as laid-whole}
+use Rattle.line.proofs.Outputs.Laid.{none, whole as laid_whole}
 use Rattle.line.specs.Composing.{Composed, Composes, Composition, PostedAs, frame_size, posting_fault, trade_frame}
 
 pub composed_text : (d : Deal) (b a : List ℕ) (n : ℕ) → Wrote table d b a (Ok n) → length a ≡ length b → Composed d a (Ok n)
@@ -68,7 +68,7 @@ module _ (m : ℕ) (d : Deal) (b b' : Ledger) (t o o' : List ℕ) (n : Isn) (k :
       let same : n ≡ record { 0 = b.posted + 1 } = λ i. record { 0 = f.numbered i } in
       let q : b' ≡ with_next b = eb ∙ rw (eu, ep) refl in
       elim (laid heading t o o' (Ok k) (omega arith) small (omega (arith, f.numbered, f.below)) ans out) [
-        | laid-whole fits er eo ↦
+        | laid_whole fits er eo ↦
             let size : k ≡ frame_size t = let z : k ≡ length (frame_text heading t) = cc in z ∙ length_frame heading t in
             let room : leb (frame_size t) (length o) ≡ true = le-leb (frame_size t) (length o) (omega (arith, length_frame heading t)) in
             record {

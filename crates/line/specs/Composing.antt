@@ -1,5 +1,5 @@
 -- Posting: what the writer of trades answers, and what becomes of it.
-use Rattle.std.specs.Prelude.{◌≡◌, ℕ, ◌+◌, ◌≤◌, Bool, cond, not, ◌&&◌, List, ◌++◌, length, take, drop, Some, None, Ok, Err, Result, nat_le}
+use Rattle.std.specs.Prelude.{◌≡◌, ℕ, ◌+◌, ◌≤◌, Bool, false, cond, not, ◌&&◌, List, ◌++◌, length, take, drop, Some, None, Ok, Err, Result, nat_le}
 use Rattle.book.specs.Ledger.{Ledger, no_place, used_up, with_next}
 use Rattle.frame.specs.Writing.{frame_text}
 use Rattle.frame.specs.declared.faults.LineFault.{LineFault}
@@ -37,7 +37,7 @@ post_result b (Ok t) o =
 
 -- the posting is not refused
 abbrev pub may_post : Ledger → Composition → List ℕ → Bool
-may_post b (Err e) o = mathlib.Core.Bool.false
+may_post b (Err e) o = false
 may_post b (Ok t) o = not (used_up b) && (not (no_place b) && nat_le (frame_size t) (length o))
 
 abbrev pub post_ledger : Ledger → Composition → List ℕ → Ledger

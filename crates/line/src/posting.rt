@@ -2,7 +2,7 @@
 ghost use Rattle.std.specs.Prelude.{◌≡◌, ◌≤◌, length, OnErr};
 ghost use Rattle.book.specs.View.{ledger};
 ghost use Rattle.line.specs.Composing.{Composed, PostedAs, posting_fault};
-ghost use Rattle.trade.specs.Views.{view as deal-of};
+ghost use Rattle.trade.specs.Views.{view as deal_of};
 
 use crate::{Line, Posted};
 use book::Book;
@@ -29,7 +29,7 @@ fn fault_of(fault: WriteFault) -> LineFault
 // Writes the trade's text, which always fits.
 fn compose(trade: &Trade<'_>, text: &mut [u8]) -> Result<usize, LineFault>
     requires { 320 ≤ length text.old }
-    ensures composed { Composed (deal-of trade.now) text.new result }
+    ensures composed { Composed (deal_of trade.now) text.new result }
 {
     match trade.write(text) {
         Ok(size) => Ok(size),
@@ -47,7 +47,7 @@ impl Line {
         trade: &Trade<'_>,
         out: &mut [u8],
     ) -> Result<Posted, LineFault>
-        ensures posted_or_refused { PostedAs self.now.settings.member (deal-of trade.now) (ledger book.old) out.old result (ledger book.new) out.new }
+        ensures posted_or_refused { PostedAs self.now.settings.member (deal_of trade.now) (ledger book.old) out.old result (ledger book.new) out.new }
         ensures refusal_changes_nothing { OnErr result ((ledger book.new ≡ ledger book.old) × (out.new ≡ out.old)) }
     {
         let mut text = [0u8; TEXT_ROOM];

@@ -12,7 +12,7 @@ use Rattle.line.specs.Steps.{State, arrival_ledger, arrival_result, arrival_stat
 use Rattle.line.specs.declared.Arrived.TheVariants.{Delivered, Parked, Noted, Repeated}
 use Rattle.line.specs.declared.Posted.{Posted}
 use Rattle.line.specs.declared.Settings.{Settings}
-use Rattle.trade.specs.Views.{view as deal-of}
+use Rattle.trade.specs.Views.{view as deal_of}
 use Rattle.trade.specs.declared.reading.Trade.{Trade}
 use Rattle.runs.proofs.Arrivals.{arrival_goes}
 use Rattle.runs.proofs.Clocks.{Patient}
@@ -129,10 +129,10 @@ module _ (x : Settings) (P C U : ℕ) (v : Patient x) (h : History) (s s' : Stat
         book = status_booked U h b B w (status_of s b);
       })
 
-  pub on_posting : (t : Trade) (p : Result Posted LineFault) (o : List ℕ) → q ≡ Posting t → r ≡ PostingReply p → s' ≡ s → PostedAs x.member (deal-of t) b w p b' o → Stands x P C U (turned q w r o ∷ h) s' b'
+  pub on_posting : (t : Trade) (p : Result Posted LineFault) (o : List ℕ) → q ≡ Posting t → r ≡ PostingReply p → s' ≡ s → PostedAs x.member (deal_of t) b w p b' o → Stands x P C U (turned q w r o ∷ h) s' b'
   on_posting t p o eq er es A =
       let m = A.text in
-      let g = posting_goes x P U h s b (deal-of t) w k.line k.book m in
+      let g = posting_goes x P U h s b (deal_of t) w k.line k.book m in
       let e = er ∙ ap PostingReply A.answer in
       rw (eq, e, es, A.output, A.book_after) (record {
         each = ((m, A.writer, g.0), k.each);

@@ -6,7 +6,7 @@ use Rattle.hold.specs.Meaning.{Cells}
 use Rattle.line.specs.View.{view}
 use Rattle.line.specs.declared.Line.{Line}
 use Rattle.line.specs.declared.Settings.{Settings}
-use Rattle.trade.specs.Views.{view as deal-of}
+use Rattle.trade.specs.Views.{view as deal_of}
 use Rattle.runs.specs.Tie.{Stands}
 use Rattle.runs.specs.Words.{Call, arrival, take, tick, fetch, status, posting, Event, History}
 use Rattle.runs.specs.declared.Request.{Request}
@@ -19,7 +19,7 @@ call_of Take = take
 call_of Tick = tick
 call_of Fetch = fetch
 call_of Status = status
-call_of (Posting t) = posting (deal-of t)
+call_of (Posting t) = posting (deal_of t)
 
 abbrev pub event_of : Turn → Turn → Event
 event_of b a = record { call = call_of b.request; given = vec_items b.output; reply = a.reply; out = vec_items a.output }

@@ -6,7 +6,7 @@ use Rattle.line.specs.Composing.{PostedAs}
 use Rattle.line.specs.Steps.{fetch_output, fetch_result, fetch_state, take_ledger, take_output, take_result, take_state}
 use Rattle.line.specs.View.{view}
 use Rattle.line.specs.declared.Line.{Line}
-use Rattle.trade.specs.Views.{view as deal-of}
+use Rattle.trade.specs.Views.{view as deal_of}
 use Rattle.runs.proofs.Clocks.{Patient}
 use Rattle.runs.proofs.Turns.{on_arrival, on_take, on_tick, on_fetch, on_status, on_posting, stands_law, turned}
 use Rattle.runs.specs.Tie.{Stands}
@@ -129,7 +129,7 @@ returns-in-Posting g c =
     let value = c.deref_mut-in-Posting.ensures.value in
     let len : length c.post.new.out ≡ c.args.turn.now.output.len = c.post.auto.out ∙ c.deref_mut-in-Posting.ensures.len in
     let written = with_items_is c.args.turn.now.output c.post.new.out len in
-    let d = deal-of c.in-Posting.trade in
+    let d = deal_of c.in-Posting.trade in
     let posted = c.post.ensures.posted_or_refused in
     let A : PostedAs x.member d b w c.post.result (ledger c.post.new.book) (vec_items (Rattle.std.specs.Vec.with_items c.args.turn.now.output c.post.new.out)) =
     subst (λ o. PostedAs x.member d b w c.post.result (ledger c.post.new.book) o) (sym written)
