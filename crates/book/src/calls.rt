@@ -1,7 +1,6 @@
 // The calls of the book.
-ghost use Rattle.std.specs.Prelude.{◌≡◌, min, length, OnErr};
-ghost use Rattle.book.specs.Ledger.{account_of, blank, closed, entered, fate_of, has, next_isn};
-ghost use Rattle.book.specs.View.{entries_of, ledger};
+ghost use Rattle.std.specs.Prelude.{◌≡◌, ◌+◌, ◌≤◌, min, length, OnErr};
+ghost use Rattle.book.specs.Ledger.{account_of, blank, closed, entered, entry_at, fate_of, has, next_isn};
 
 use crate::{Account, Book, Fate, OpenTrade};
 use frame::faults::LineFault;
@@ -18,12 +17,11 @@ pub const LAST_ISN: u32 = 999999;
 impl<'a> Book<'a> {
     // A book over the first 64 entries, or all if fewer, with no trade in it, whatever the entries were.
     pub fn new(entries: &'a mut [Option<OpenTrade>]) -> Book<'a>
-        ensures nothing_posted { ledger result ≡ blank (min 64 (length entries.old)) }
+        ensures nothing_posted { result ≡ blank (min 64 (length entries.old)) }
     {
         let places = entries.len().min(MOST_PLACES);
-        let entries = &mut entries[0..places];
         Book {
-            trades: Table::new(entries),
+            trades: Table::new(&mut entries[..places]),
             posted: 0,
             confirmed: 0,
             rejected: 0,
@@ -32,64 +30,55 @@ impl<'a> Book<'a> {
 
     // Forgets every trade; the places stay.
     pub fn clear(&mut self)
-        ensures nothing_posted { ledger self.new ≡ blank (length (entries_of self.old)) }
+        ensures nothing_posted { self.new ≡ blank (length self.old.entries) }
     {
-        let Book {
-            trades,
-            posted,
-            confirmed,
-            rejected,
-        } = self;
-        trades.clear();
-        *posted = 0;
-        *confirmed = 0;
-        *rejected = 0;
+        self.trades.clear();
+        self.posted = 0;
+        self.confirmed = 0;
+        self.rejected = 0;
     }
 
     // How many places there are.
     pub fn places(&self) -> usize
-        ensures answer { result ≡ length (entries_of self.now) }
+        ensures answer { result ≡ length self.now.entries }
     {
         self.trades.places()
     }
 
+    // The entry at the place where the trade belongs; none without a place.
+    fn entry(&self, isn: Isn) -> Option<OpenTrade>
+        ensures answer { result ≡ entry_at self.now isn.0 }
+    {
+        let place = (isn.0 as usize).checked_rem(self.trades.places())?;
+        self.trades.get(place)
+    }
+
     // Whether the trade is open.
     pub fn has_open(&self, isn: Isn) -> bool
-        ensures answer { result ≡ has (ledger self.now) isn.0 }
+        ensures answer { result ≡ has self.now isn.0 }
     {
-        let places = self.trades.places();
-        if places == 0 {
-            return false;
-        }
-        match self.trades.get(isn.0 as usize % places) {
-            Some(trade) => trade.isn.0 == isn.0,
-            None => false,
-        }
+        self.entry(isn).is_some_and(|trade| trade.isn == isn)
     }
 
     // The number of the next trade: 35 if our numbers are used up, 34 without a free place for it.
     pub fn next_isn(&self) -> Result<Isn, LineFault>
-        ensures answer { result ≡ next_isn (ledger self.now) }
+        ensures answer { result ≡ next_isn self.now }
     {
         if self.posted >= LAST_ISN {
             return Err(LineFault::UsedUp);
         }
-        let isn = self.posted + 1;
-        let places = self.trades.places();
-        if places == 0 {
+        let isn = Isn(self.posted + 1);
+        if self.places() == 0 || self.entry(isn).is_some() {
             return Err(LineFault::NoBookPlace);
         }
-        match self.trades.get(isn as usize % places) {
-            Some(_) => Err(LineFault::NoBookPlace),
-            None => Ok(Isn(isn)),
-        }
+        Ok(isn)
     }
 
     // Enters the next trade at its place.
     pub fn enter(&mut self) -> Result<Isn, LineFault>
-        ensures answer { result ≡ next_isn (ledger self.old) }
-        ensures book_after { ledger self.new ≡ entered (ledger self.old) }
-        ensures refusal_changes_nothing { OnErr result (ledger self.new ≡ ledger self.old) }
+        ensures answer { result ≡ next_isn self.old }
+        ensures book_after { self.new ≡ entered self.old }
+        ensures refusal_changes_nothing { OnErr result (self.new ≡ self.old) }
     {
         let isn = self.next_isn()?;
         let place = isn.0 as usize % self.trades.places();
@@ -100,8 +89,8 @@ impl<'a> Book<'a> {
 
     // Closes the trade that the answer names, if it is open.
     pub fn close(&mut self, answer: Answer) -> Fate
-        ensures answer { result ≡ fate_of (has (ledger self.old)) answer }
-        ensures book_after { ledger self.new ≡ closed (ledger self.old) answer }
+        ensures answer { result ≡ fate_of (has self.old) answer }
+        ensures book_after { self.new ≡ closed self.old answer }
     {
         if !self.has_open(answer.isn) {
             return Fate::Unknown;
@@ -122,7 +111,9 @@ impl<'a> Book<'a> {
 
     // How many trades were posted, and what became of them: those that are neither confirmed nor rejected are open.
     pub fn account(&self) -> Account
-        ensures answer { result ≡ account_of (ledger self.now) }
+        ensures answer { result ≡ account_of self.now }
+        ensures each_trade_counted { result.posted ≡ result.«open» + result.confirmed + result.rejected }
+        ensures at_most_999999 { result.posted ≤ 999999 }
     {
         Account {
             posted: self.posted,

@@ -1,16 +1,14 @@
 // The book: our posted trades that are still open, and how many were confirmed and rejected.
 #![tactic(auto)]
 
-ghost use Rattle.std.specs.Prelude.{◌≡◌, ◌+◌, ◌≤◌};
-ghost use Rattle.table.specs.Places.{taken_places};
-
 use frame::kinds::Isn;
+use std::marker::Model;
 use table::Table;
 
 pub mod calls;
 
 // An entry of the book: a posted trade that waits for its answer.
-#[derive(Clone, Copy)]
+#[derive(Clone, Copy, PartialEq, Eq, Debug)]
 pub struct OpenTrade {
     isn: Isn,
 }
@@ -22,8 +20,19 @@ pub struct Book<'a> {
     posted: u32,
     confirmed: u32,
     rejected: u32,
-    ghost account: { posted ≡ taken_places trades.entries.now + confirmed + rejected },
-    ghost numbered: { posted ≤ 999999 },
+}
+
+// A book is its entries and its counts. Every posted trade is open, confirmed or rejected.
+impl<'a> Model for Book<'a> {
+    ghost use Rattle.std.specs.Prelude.{◌≡◌, ◌+◌, ◌≤◌};
+    ghost use Rattle.table.specs.Places.{taken_places};
+    ghost use Rattle.book.specs.Ledger.{Ledger};
+
+    ghost Value = { Ledger };
+
+    ghost view = { λ b. record { entries = b.trades; posted = b.posted; confirmed = b.confirmed; rejected = b.rejected } };
+
+    ghost invariant = { λ b. (b.posted ≡ taken_places b.trades + b.confirmed + b.rejected) × (b.posted ≤ 999999) };
 }
 
 // What an answer of the exchange does to the trade that it names.

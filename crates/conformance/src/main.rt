@@ -7,22 +7,45 @@ use frame::arrival::{Arrival, Circle, judge};
 use frame::faults::LineFault;
 use frame::kinds::{Kind, Mark, Osn};
 use frame::session::{Asked, Leaving, Off, Open};
-use frame::texts::Verdict;
 use frame::write::{Heading, write_frame};
-use notation::refusals::{Layer, Refusal};
+use notation::refusals::Refusal;
 use std::alloc::{AllocError, Global};
 use std::io;
 use std::io::{BufRead, BufReader};
 use trade::reading::read_trade;
-use words::{Words, decode_hex};
+use words::{decode_hex, read_member, read_number};
 
-// What a request is answered with.
+// What a line asks.
 #[derive(Drop)]
-enum Reply {
+enum Request {
+    // A MEMBER FIRST LAST HEX: a frame is judged
+    Judge {
+        member: u16,
+        circle: Circle,
+        frame: Vec<u8>,
+    },
+    // O MEMBER HEX: an asked session is handed a frame
+    Open {
+        member: u16,
+        frame: Vec<u8>,
+    },
+    // C MEMBER HEX: a leaving session is handed a frame
+    Close {
+        member: u16,
+        frame: Vec<u8>,
+    },
+    // R HEX: a text is read, and written as we would write the trade that it means
+    Read {
+        text: Vec<u8>,
+    },
+}
+
+// What a request is answered with, where it is not refused.
+#[derive(Drop)]
+enum Reply<'a> {
     Taken(Arrival),
     Done,
-    Written(Vec<u8>),
-    Refused(Refusal),
+    Written(&'a [u8]),
 }
 
 fn main(rt: HostRuntime) -> anyhow::Result<()> {
@@ -30,98 +53,84 @@ fn main(rt: HostRuntime) -> anyhow::Result<()> {
 }
 
 fn run(rt: &HostRuntime) -> anyhow::Result<()> {
-    let mut input = BufReader::new(rt.alloc(), rt.stdin())?;
-    let mut line = Vec::new(rt.alloc());
-    for _ in 0..u64::MAX {
-        line.clear();
-        if input.read_until(b'\n', &mut line)? == 0 {
-            break;
-        }
-        if line.last().copied() == Some(b'\n') {
-            line.pop();
-        }
-        let reply = answer(rt.alloc(), &line)?;
+    let heap = rt.alloc();
+    for line in BufReader::new(heap, rt.stdin())?.split(heap, b'\n') {
+        // an output is lent by who calls, since a library call allocates nothing
+        let mut out = [0u8; 320];
+        let reply = match read_request(heap, &line?)? {
+            Some(request) => answer(request, &mut out),
+            None => Err(LineFault::Unknown.into()),
+        };
         tell(rt, reply)?;
     }
     Ok(())
 }
 
-// The answer to one line.
-fn answer(heap: Global, line: &[u8]) -> Result<Reply, AllocError> {
-    let mut words = Words::new(line);
-    let reply = match words.next() {
-        Some(b"A") => judge_frame(heap, &mut words)?,
-        Some(b"O") => open_session(heap, &mut words)?,
-        Some(b"C") => close_session(heap, &mut words)?,
-        Some(b"R") => read_text(heap, &mut words)?,
-        _ => None,
+// The request of a line, if it is one.
+fn read_request(heap: Global, line: &[u8]) -> Result<Option<Request>, AllocError> {
+    let Ok(line) = str::from_utf8(line) else {
+        return Ok(None);
     };
-    Ok(reply.unwrap_or(Reply::Refused(LineFault::Unknown.refusal())))
+    // the bytes are the last word
+    let Some((front, last)) = line.rsplit_once(' ') else {
+        return Ok(None);
+    };
+    let Some(bytes) = decode_hex(heap, last)? else {
+        return Ok(None);
+    };
+    Ok(with_bytes(front, bytes))
 }
 
-// A MEMBER FIRST LAST HEX
-fn judge_frame(heap: Global, words: &mut Words<'_>) -> Result<Option<Reply>, AllocError> {
-    let Some(member) = words.member() else {
-        return Ok(None);
-    };
-    let Some(first) = words.number() else {
-        return Ok(None);
-    };
-    let Some(last) = words.number() else {
-        return Ok(None);
-    };
-    let Some(bytes) = decode_hex(heap, words.last())? else {
-        return Ok(None);
-    };
-    let circle = Circle {
-        first: Osn(first),
-        last: Osn(last),
-    };
-    match judge(&bytes, member, circle) {
-        Ok(arrival) => Ok(Some(Reply::Taken(arrival))),
-        Err(fault) => Ok(Some(Reply::Refused(fault.refusal()))),
-    }
-}
-
-// O MEMBER HEX: an asked session is handed a frame
-fn open_session(heap: Global, words: &mut Words<'_>) -> Result<Option<Reply>, AllocError> {
-    let Some(member) = words.member() else {
-        return Ok(None);
-    };
-    let Some(bytes) = decode_hex(heap, words.last())? else {
-        return Ok(None);
-    };
-    Ok(Some(opened(member, &bytes)))
-}
-
-fn opened(member: u16, bytes: &[u8]) -> Reply {
-    match ask(member) {
-        Ok(asked) => match asked.accept(bytes) {
-            Ok(_) => Reply::Done,
-            Err((_, fault)) => Reply::Refused(fault.refusal()),
+// The request that these words and bytes make, if they make one.
+fn with_bytes(front: &str, bytes: Vec<u8>) -> Option<Request> {
+    let mut words = front.split(' ');
+    let request = match words.next()? {
+        "A" => Request::Judge {
+            member: read_member(words.next()?)?,
+            circle: Circle {
+                first: Osn(read_number(words.next()?)?),
+                last: Osn(read_number(words.next()?)?),
+            },
+            frame: bytes,
         },
-        Err(fault) => Reply::Refused(fault.refusal()),
-    }
-}
-
-// C MEMBER HEX: a leaving session is handed a frame
-fn close_session(heap: Global, words: &mut Words<'_>) -> Result<Option<Reply>, AllocError> {
-    let Some(member) = words.member() else {
-        return Ok(None);
-    };
-    let Some(bytes) = decode_hex(heap, words.last())? else {
-        return Ok(None);
-    };
-    Ok(Some(closed(member, &bytes)))
-}
-
-fn closed(member: u16, bytes: &[u8]) -> Reply {
-    match leaving(member) {
-        Ok(leaving) => match leaving.accept(bytes) {
-            Ok(_) => Reply::Done,
-            Err((_, fault)) => Reply::Refused(fault.refusal()),
+        "O" => Request::Open {
+            member: read_member(words.next()?)?,
+            frame: bytes,
         },
-        Err(fault) => Reply::Refused(fault.refusal()),
+        "C" => Request::Close {
+            member: read_member(words.next()?)?,
+            frame: bytes,
+        },
+        "R" => Request::Read { text: bytes },
+        _ => return None,
+    };
+    words.next().is_none().then_some(request)
+}
+
+fn answer(request: Request, out: &mut [u8; 320]) -> Result<Reply<'_>, Refusal> {
+    match request {
+        Request::Judge {
+            member,
+            circle,
+            frame,
+        } => Ok(Reply::Taken(judge(&frame, member, circle)?)),
+        Request::Open { member, frame } => {
+            ask(member)?.accept(&frame).map_err(|(_, fault)| fault)?;
+            Ok(Reply::Done)
+        }
+        Request::Close { member, frame } => {
+            leaving(member)?.accept(&frame).map_err(|(_, fault)| fault)?;
+            Ok(Reply::Done)
+        }
+        Request::Read { text } => {
+            // a match: `?` on a trade, which borrows its text and has a rate with a model, is not covered by the check
+            let trade = match read_trade(&text) {
+                Ok(trade) => trade,
+                Err(fault) => return Err(fault.into()),
+            };
+            let n = trade.write(out)?;
+            Ok(Reply::Written(&out[..n]))
+        }
     }
 }
 
@@ -134,10 +143,10 @@ fn leaving(member: u16) -> Result<Leaving, LineFault> {
 
 fn ask(member: u16) -> Result<Asked, LineFault> {
     let mut out = [0u8; 23];
-    match Off::new(member)?.log_on(&mut out) {
-        Ok((asked, _)) => Ok(asked),
-        Err((_, fault)) => Err(fault),
-    }
+    let (asked, _) = Off::new(member)?
+        .log_on(&mut out)
+        .map_err(|(_, fault)| fault)?;
+    Ok(asked)
 }
 
 fn confirm(asked: Asked, member: u16) -> Result<Open, LineFault> {
@@ -152,68 +161,23 @@ fn confirm(asked: Asked, member: u16) -> Result<Open, LineFault> {
         },
         &[],
     )?;
-    match asked.accept(&out) {
-        Ok(open) => Ok(open),
-        Err((_, fault)) => Err(fault),
-    }
+    asked.accept(&out).map_err(|(_, fault)| fault)
 }
 
 fn leave(open: Open) -> Result<Leaving, LineFault> {
     let mut out = [0u8; 23];
-    match open.log_off(&mut out) {
-        Ok((leaving, _)) => Ok(leaving),
-        Err((_, fault)) => Err(fault),
-    }
+    let (leaving, _) = open.log_off(&mut out).map_err(|(_, fault)| fault)?;
+    Ok(leaving)
 }
 
-// R HEX: the text as we would write the trade that it means
-fn read_text(heap: Global, words: &mut Words<'_>) -> Result<Option<Reply>, AllocError> {
-    let Some(bytes) = decode_hex(heap, words.last())? else {
-        return Ok(None);
-    };
-    let mut out = [0u8; 320];
-    match read_trade(&bytes) {
-        Ok(trade) => match trade.write(&mut out) {
-            Ok(n) if n <= 320 => Ok(Some(Reply::Written(Vec::from_slice(heap, &out[0..n])?))),
-            Ok(_) => Ok(None),
-            Err(fault) => Ok(Some(Reply::Refused(fault.refusal()))),
-        },
-        Err(fault) => Ok(Some(Reply::Refused(fault.refusal()))),
-    }
-}
-
-fn layer_name(layer: Layer) -> &'static str {
-    match layer {
-        Layer::Frame => "frame",
-        Layer::Text => "text",
-        Layer::Field => "field",
-        Layer::Line => "line",
-    }
-}
-
-fn tell(rt: &HostRuntime, reply: Reply) -> io::Result<()> {
+fn tell(rt: &HostRuntime, reply: Result<Reply<'_>, Refusal>) -> anyhow::Result<()> {
     match reply {
-        Reply::Done => println!(rt; "ok"),
-        Reply::Refused(refusal) => {
-            println!(rt;
-                "x {} {} {}",
-                refusal.number,
-                layer_name(refusal.layer),
-                refusal.offset
-            )
-        }
-        Reply::Written(text) => tell_text(rt, &text),
-        Reply::Taken(arrival) => tell_arrival(rt, arrival),
+        Ok(Reply::Done) => println!(rt; "ok")?,
+        Ok(Reply::Written(text)) => println!(rt; "ok {}", hex::encode(rt.alloc(), text)?)?,
+        Ok(Reply::Taken(arrival)) => tell_arrival(rt, arrival)?,
+        Err(refusal) => println!(rt; "x {} {} {}", refusal.number, refusal.layer, refusal.offset)?,
     }
-}
-
-// A text in hexadecimal.
-fn tell_text(rt: &HostRuntime, text: &[u8]) -> io::Result<()> {
-    print!(rt; "ok ")?;
-    for b in text {
-        print!(rt; "{b:02x}")?;
-    }
-    println!(rt; "")
+    Ok(())
 }
 
 fn tell_arrival(rt: &HostRuntime, arrival: Arrival) -> io::Result<()> {
@@ -223,10 +187,7 @@ fn tell_arrival(rt: &HostRuntime, arrival: Arrival) -> io::Result<()> {
     match arrival.answer {
         None => println!(rt; "ok {number} {code:03} {at}"),
         Some(answer) => {
-            let letter = match answer.verdict {
-                Verdict::Confirmed => "B",
-                Verdict::Rejected => "A",
-            };
+            let letter = u8::from(answer.verdict) as char;
             println!(rt; "ok {number} {code:03} {at} {} {letter}", answer.isn.0)
         }
     }

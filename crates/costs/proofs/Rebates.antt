@@ -1,29 +1,15 @@
 -- The pieces of field 71B, and sizes of amounts.
-use Rattle.std.proofs.Common.{◌≡◌, ℕ, ◌+◌, ◌^◌, ◌<◌, ◌≤◌, Bool, List, [], ◌∷◌, ◌++◌, length, IfSome, Some, None, codes, Option, sym, refl, ap, ◌∙◌, subst, arith}
+use Rattle.std.proofs.Common.{◌≡◌, ℕ, ◌+◌, ◌^◌, ◌<◌, ◌≤◌, List, [], ◌++◌, length, Some, None, codes, Option, sym, refl, ap, ◌∙◌, arith}
 use native.Mathlib.Nat.{pow-le-pow_right}
-use Rattle.std.specs.Option.{option_map}
 use Rattle.std.specs.List.{AllByRecursion}
-use Rattle.std.proofs.lemmas.List.{nil_from_length}
 use Rattle.pieces.specs.Cuts.{Cut, Stops, NotSlash}
-use Rattle.pieces.specs.Notation.{Value, Proper, print, Fit, Finds, Unambiguous, dec, opt, both, lead}
+use Rattle.pieces.specs.Notation.{Value, Proper, print, Fit, Finds, Unambiguous, dec, opt, lead, units}
 use Rattle.pieces.proofs.Commas.{decimal_lt}
 use Rattle.pieces.proofs.Forms.{one_decimal, one_opt, one_lead, lead_some}
 use Rattle.pieces.proofs.Slices.{same_cut}
-use Rattle.fields.specs.Table.{minus, bonus, rebate_form}
-use Rattle.costs.specs.Amounts.{Signed, sizes, signed_of, Discounts, Bonuses}
+use Rattle.fields.specs.Table.{bonus, rebate_form}
+use Rattle.costs.specs.Amounts.{Signed}
 use Rattle.costs.proofs.Slashes.{no_slash, some_decimal, at_slash, one_signed}
-
-pub no_discount : (s : List ℕ) → (length s ≡ 0 → ⊥) → Finds (dec 7 2) s None → Finds (opt (dec 7 2)) s None
-no_discount s some none None h = some (ap length h.0)
-no_discount s some none (Some v) h = none v h
-
-pub no_bonus_slash : (s : List ℕ) → (length s ≡ 0 → ⊥) → ((t : List ℕ) → s ≡ 47 ∷ t → ⊥) → Finds (opt (lead (codes "/") bonus)) s None
-no_bonus_slash s some none None h = some (ap length h.0)
-no_bonus_slash s some none (Some v) h = none (print bonus v) h.0
-
-pub no_bonus : (s t : List ℕ) → s ≡ 47 ∷ t → Finds bonus t None → Finds (opt (lead (codes "/") bonus)) s None
-no_bonus s t e none None h = let q = h.0 in let z : ◌≡◌ {A = ℕ} 0 1 = cc in omega arith
-no_bonus s t e none (Some v) h = let q = h.0 in let r : t ≡ print bonus v = cc in none v (r, h.1)
 
 bonus_stops : (y : Option Signed) → Stops NotSlash (print (opt (lead (codes "/") bonus)) y)
 bonus_stops None = tt
@@ -37,19 +23,16 @@ rebate_parts s head tail k v h = go v.0 v.1 h.1.0.0 h.0
     go None b p e = same_cut NotSlash head tail [] (print (opt (lead (codes "/") bonus)) b) k.all k.stops tt (bonus_stops b) (sym k.split ∙ e)
     go (Some a) b p e = at_slash 7 2 k a (print (opt (lead (codes "/") bonus)) b) p (bonus_stops b) e
 
-pub rebate_empty : (s : List ℕ) → length s ≡ 0 → Finds rebate_form s None
-rebate_empty s z v h = h.1.1 (sym h.0 ∙ nil_from_length s z)
-
-pub rebate_no_discount : (s head tail : List ℕ) → Cut NotSlash s head tail → Discounts head None → Finds rebate_form s None
+pub rebate_no_discount : (s head tail : List ℕ) → Cut NotSlash s head tail → Finds (opt (dec 7 2)) head None → Finds rebate_form s None
 rebate_no_discount s head tail k none v h = none v.0 ((rebate_parts s head tail k v h).0, h.1.0.0)
 
-pub rebate_no_bonus : (s head tail : List ℕ) → Cut NotSlash s head tail → Bonuses tail None → Finds rebate_form s None
+pub rebate_no_bonus : (s head tail : List ℕ) → Cut NotSlash s head tail → Finds (opt (lead (codes "/") bonus)) tail None → Finds rebate_form s None
 rebate_no_bonus s head tail k none v h = none v.1 ((rebate_parts s head tail k v h).1, h.1.0.1)
 
-pub rebate_found : (s head tail : List ℕ) → Cut NotSlash s head tail → (length s ≡ 0 → ⊥) → (a : Option (List ℕ × List ℕ)) (b : Option Signed) → Fit (opt (dec 7 2)) head a → Fit (opt (lead (codes "/") bonus)) tail b → Fit rebate_form s (a, b)
+pub rebate_found : (s head tail : List ℕ) → Cut NotSlash s head tail → (s ≡ [] → ⊥) → (a : Option (List ℕ × List ℕ)) (b : Option Signed) → Fit (opt (dec 7 2)) head a → Fit (opt (lead (codes "/") bonus)) tail b → Fit rebate_form s (a, b)
 rebate_found s head tail k some a b f g =
     let e : s ≡ print (opt (dec 7 2)) a ++ print (opt (lead (codes "/") bonus)) b = k.split ∙ ap (λ l. l ++ tail) f.0 ∙ ap (λ l. print (opt (dec 7 2)) a ++ l) g.0 in
-    (e, ((f.1, g.1), λ z. some (ap length (e ∙ z))))
+    (e, ((f.1, g.1), λ z. some (e ∙ z)))
 
 -- contents of 71B have one value
 pub one_rebate : Unambiguous rebate_form
@@ -65,17 +48,5 @@ one_rebate v w h i e =
     unslashed (Some a) p = no_slash 7 2 a p
 
 -- sizes
-pub mapped_twice : (q : ℕ) (v : Option Signed) → option_map signed_of (option_map (sizes q) v) ≡ option_map (λ x. signed_of (sizes q x)) v
-mapped_twice q None = refl
-mapped_twice q (Some x) = refl
-
-pub small_sizes : (p q : ℕ) (v : Option Signed) (x : Option (ℕ × Bool)) → Proper (opt (both (dec p q) minus)) v → x ≡ option_map (sizes q) v → p + q ≤ 18 → IfSome x (λ y. y.0 < 2 ^ 63)
-small_sizes p q v x h e l = subst (λ o. IfSome o (λ y. y.0 < 2 ^ 63)) (sym e) (go v h)
-  where
-    go : (w : Option Signed) → Proper (opt (both (dec p q) minus)) w → IfSome (option_map (sizes q) w) (λ y. y.0 < 2 ^ 63)
-    go None k = tt
-    go (Some w) k = let b = decimal_lt p q w.0 k.0 in let m : 10 ^ (p + q) ≤ 10 ^ 18 = pow-le-pow_right (omega arith) l in omega (arith, b, m)
-
-pub bonus_proper : (v : Option Signed) → Proper (opt (lead (codes "/") bonus)) v → Proper (opt (both (dec 2 3) minus)) v
-bonus_proper None h = tt
-bonus_proper (Some x) h = h
+pub size_small : (p q n : ℕ) (v : List ℕ × List ℕ) → Proper (dec p q) v → n ≡ units q v → p + q ≤ 18 → n < 2 ^ 63
+size_small p q n v h e l = let b = decimal_lt p q v h in let m : 10 ^ (p + q) ≤ 10 ^ 18 = pow-le-pow_right (omega arith) l in omega (arith, b, m, e)

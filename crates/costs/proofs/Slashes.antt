@@ -38,20 +38,10 @@ follows_stops (a ∷ []) h = absurd h
 follows_stops (a ∷ b ∷ []) h = absurd h
 follows_stops (a ∷ b ∷ c ∷ t) h = λ n. n h.0
 
-no_list : {b : ℕ} {s : List ℕ} {A : Type 0} → ◌≡◌ {A = List ℕ} [] (b ∷ s) → A
-no_list e = absurd (let z : ◌≡◌ {A = ℕ} 0 1 = cc in omega arith)
-
 -- /N in front of a piece or the end is no code
 code_not_minus : (t : List ℕ) → Stops NotSlash t → Follows (47 ∷ 78 ∷ t) → ⊥
 code_not_minus [] st f = f
 code_not_minus (c ∷ t) st f = st (λ e. omega (arith, e, capital_range c f.2))
-
-pub minus_taken : (s t : List ℕ) → s ≡ 47 ∷ 78 ∷ t → Stops NotSlash t → Takes minus Follows s true t
-minus_taken s t e st = record { split = e; proper = tt; only = only }
-  where
-    only : (v : Bool) (w : List ℕ) → Unit {0} → s ≡ print minus v ++ w → Follows w → (v ≡ true) × (w ≡ t)
-    only true w h q f = (refl, let z : 47 ∷ 78 ∷ w ≡ 47 ∷ 78 ∷ t = sym q ∙ e in cc)
-    only false w h q f = absurd (code_not_minus t st (subst Follows (sym q ∙ e) f))
 
 pub minus_left : (s : List ℕ) → ((t : List ℕ) → s ≡ 47 ∷ 78 ∷ t → Stops NotSlash t → ⊥) → Takes minus Follows s false s
 minus_left s none = record { split = refl; proper = tt; only = only }
@@ -107,9 +97,6 @@ module _ (p q : ℕ) (s head tail : List ℕ) (k : Cut NotSlash s head tail) whe
 
   pub signed_no_minus : Finds minus tail None → Finds (both (dec p q) minus) s None
   signed_no_minus none v h = none v.1 ((both_parts v h.1 h.0).1, tt)
-
-  pub signed_found : (d : List ℕ × List ℕ) → Fit (dec p q) head d → (m : Bool) → Finds minus tail (Some m) → Fit (both (dec p q) minus) s (d, m)
-  signed_found d h m j = (k.split ∙ ap (λ l. l ++ tail) h.0 ∙ ap (λ l. print (dec p q) d ++ l) j.0, (h.1, tt))
 
 pub one_minus : Unambiguous minus
 one_minus true true h i e = refl

@@ -1,5 +1,5 @@
 -- Amounts that can be written, and what the rows 71B, 71C and 71D answer.
-use Rattle.std.proofs.Common.{◌≡◌, ℕ, zero, suc, ◌+◌, ◌-◌, ◌*◌, ◌/◌, ◌%◌, ◌^◌, ◌<◌, ◌≤◌, Bool, true, false, ◌||◌, ◌⊎◌, List, [], ◌∷◌, length, ℤ, pos, negsuc, nat_abs, is_some, Some, None, Ok, Err, codes, Option, Result, sym, refl, ap, ◌∙◌, subst, inl, inr, mul_assoc, add-mul, pow-suc, mul-div_cancel, arith}
+use Rattle.std.proofs.Common.{◌≡◌, ℕ, zero, suc, ◌+◌, ◌-◌, ◌*◌, ◌/◌, ◌%◌, ◌^◌, ◌<◌, ◌≤◌, Bool, true, false, ◌||◌, List, [], ◌∷◌, length, ℤ, pos, negsuc, nat_abs, is_some, Some, None, Ok, Err, codes, Option, Result, sym, refl, ap, ◌∙◌, subst, inl, inr, mul_assoc, add-mul, pow-suc, mul-div_cancel, arith}
 use native.Mathlib.Nat.{pow-le-pow_right, mul-mod_left}
 use Rattle.notation.specs.declared.refusals.Why.{Why}
 use Rattle.notation.specs.declared.refusals.Why.TheVariants.{Notation as NotNotation, Code, Moment, Pieces}
@@ -9,26 +9,25 @@ use Rattle.std.proofs.lemmas.List.{length-append}
 use Rattle.std.proofs.lemmas.Bool.{false≢true}
 use Rattle.pieces.specs.Notation.{Proper, print, dec, opt, both, lead, units}
 use Rattle.pieces.specs.Plain.{plain, signed, negative}
-use Rattle.pieces.specs.Rows.{Reads, Judged, Checks, Lawful}
+use Rattle.pieces.specs.Rows.{Judged, Checks, Lawful}
 use Rattle.pieces.proofs.Commas.{decimal_lt}
 use Rattle.pieces.proofs.Plains.{plain_counts, plain_proper, plain_proper_wide, plain_small}
 use Rattle.pieces.proofs.Forms.{one_opt, one_lead, lead_some, one_after, one_stands, sized_exactly}
 use Rattle.notation.specs.declared.classes.Class.TheVariants.{Capital}
-use Rattle.fields.specs.Table.{minus, amount, bonus, commission, code, rebate_form, brokerage_form, charges_form}
+use Rattle.fields.specs.Table.{minus, amount, bonus, commission, code, rebate_form, charges_form}
 use Rattle.fields.proofs.Lawfuls.{one_code}
 use Rattle.pieces.specs.Notation.{exactly, Unambiguous}
 use Rattle.costs.specs.Amounts.{Signed, sizes, signed_of, signed_pieces, Within, WithinPlain}
-use Rattle.costs.specs.Costs.{row71b, row71c, row71d, letters, AmountWithAC, agreed_of, amount_of, Brokers, CutBrokerage, ListedCommission, FitWidth, Commissioned, commission_pieces, CodeOf, Told, Holds, Narrow, Limits}
+use Rattle.costs.specs.Costs.{row71b, row71c, row71d, letters, ListedCharge, AmountWithAC, agreed_of, amount_of, Brokers, ListedCommission, FitWidth, Commissioned, commission_pieces, Told, Holds, Narrow, Limits}
 use Rattle.costs.specs.declared.brokerage.Brokerage.{Brokerage}
 use Rattle.costs.specs.declared.brokerage.Brokerage.TheVariants.{Agreed, Free, FreeOfAll, Half}
 use Rattle.costs.specs.declared.charges.Charges.{Charges}
 use Rattle.costs.specs.declared.charges.Commission.{Commission}
-use Rattle.costs.specs.declared.charges.Basis.TheVariants.{ByAmount, ByRate}
 use Rattle.costs.specs.declared.charges.Commission.TheVariants.{Amount, PerMille}
 use Rattle.costs.specs.declared.rebate.Rebate.{Rebate}
 use Rattle.costs.proofs.Slashes.{some_decimal, one_signed, one_pair}
 use Rattle.costs.proofs.Followers.{code_follows, commission_follows}
-use Rattle.costs.proofs.Rebates.{one_rebate, mapped_twice}
+use Rattle.costs.proofs.Rebates.{one_rebate}
 
 differ : {A : Type 0} → ◌≡◌ {A = ℕ} 0 1 → A
 differ e = absurd (omega arith)
@@ -184,26 +183,12 @@ lawful_71c = record {
   back = λ v t h l r a m. brokerage_good t (amount_within 7 2 (omega arith) (omega arith) (agreed_of t) v.0 h.0.0 m.0);
 }
 
--- what an amount and a code answer is what the contents answer
-pub brokers_read : (s : List ℕ) (a : Option (ℕ × Bool)) (c : Option (List ℕ)) (z : Option ℤ) → CutBrokerage s (Some (a, c)) → z ≡ option_map signed_of a → (r : Result Brokerage Why) → Brokers z c r → Reads row71c s r
-brokers_read s a c z k e r h =
-    let q : z ≡ amount_of k.0.0 = e ∙ ap (option_map signed_of) k.2 ∙ mapped_twice 2 k.0.0 in
-    go r (subst (λ x. Brokers (amount_of k.0.0) x r) k.3 (subst (λ x. Brokers x c r) q h))
-  where
-    go : (r' : Result Brokerage Why) → Brokers (amount_of k.0.0) k.0.1 r' → Reads row71c s r'
-    go (Ok t) b = (k.0, k.1, b.0, tt, b.1, (b.2, b.3))
-    go (Err NotNotation) b = absurd b
-    go (Err Code) b = (k.0, k.1, b)
-    go (Err Moment) b = absurd b
-    go (Err Pieces) b = (k.0, k.1, b.0, tt, b.1)
+-- AC with an amount, and without one
+pub brokers_agreed : (a : Option ℤ) (c : Option (List ℕ)) (z : ℤ) → a ≡ Some z → c ≡ Some (codes "AC") → Brokers a c (Ok (Agreed z))
+brokers_agreed a c z e f = (subst ListedCharge (sym f) (Agreed z, refl), ((λ s. f), λ s. ap is_some e), sym e, f)
 
-pub not_both_none : (s : List ℕ) (a : Option (ℕ × Bool)) (c : Option (List ℕ)) (z : Option ℤ) → CutBrokerage s (Some (a, c)) → z ≡ option_map signed_of a → z ≡ None → c ≡ None → ⊥
-not_both_none s a c z k e n m = go k.0.0 k.0.1 k.1.1.1 (sym (e ∙ ap (option_map signed_of) k.2 ∙ mapped_twice 2 k.0.0) ∙ n) (sym k.3 ∙ m)
-  where
-    go : (x : Option Signed) (y : Option (List ℕ)) → (print brokerage_form (x, y) ≡ [] → ⊥) → amount_of x ≡ None → y ≡ None → ⊥
-    go None None ne p q = ne refl
-    go None (Some y) ne p q = differ (let o : ◌≡◌ {A = ℕ} 0 1 = cc in o)
-    go (Some x) y ne p q = differ (let o : ◌≡◌ {A = ℕ} 0 1 = cc in o)
+pub brokers_no_amount : (a : Option ℤ) (c : Option (List ℕ)) → a ≡ None → c ≡ Some (codes "AC") → Brokers a c (Err Pieces)
+brokers_no_amount a c e f = (subst ListedCharge (sym f) (Agreed (pos 0), refl), λ w. false≢true (sym (ap is_some e) ∙ w.1 f))
 
 -- 71D
 units_wider : (w f : List ℕ) → length f ≤ 2 → units 3 (w, f) ≡ units 2 (w, f) * 10
@@ -336,24 +321,9 @@ limits_judged t s e (Err Code) h = absurd h
 limits_judged t s e (Err Moment) h = absurd h
 limits_judged t s e (Err Pieces) h = charges_wide t s e h.0 h.1
 
--- the codes and widths of a commission
-pub told_unlisted : (c : List ℕ) (x : Signed) → CodeOf c None → Told (c, x) (Err Code)
-told_unlisted c x none = λ l. listed l
-  where
-    listed : (c ≡ codes "PD") ⊎ (c ≡ codes "PM") → ⊥
-    listed (inl e) = none ByAmount e
-    listed (inr e) = none ByRate e
-
 pub told_amount : (c : List ℕ) (w : List ℕ × List ℕ) (m : Bool) (n : ℕ) → c ≡ codes "PD" → n ≡ units 3 w → length w.1 ≤ 2 → (z : ℤ) → z ≡ signed (n / 10) m → Told (c, (w, m)) (Ok (Amount z))
 told_amount c w m n e q l z y = (
   inl e,
   ((λ p. l), λ p. let o = sym e ∙ p in differ (let k : ◌≡◌ {A = ℕ} 68 77 = cc in absurd (omega arith))),
   (e, y ∙ ap (λ k. signed (k / 10) m) q, ap (λ k. k % 10) (units_wider w.0 w.1 l) ∙ mul-mod_left (units 2 w) 10),
-)
-
-pub told_rate : (c : List ℕ) (w : List ℕ × List ℕ) (m : Bool) (n : ℕ) → c ≡ codes "PM" → n ≡ units 3 w → length w.0 ≤ 2 → (z : ℤ) → z ≡ signed n m → Told (c, (w, m)) (Ok (PerMille z))
-told_rate c w m n e q l z y = (
-  inr e,
-  ((λ p. let o = sym e ∙ p in differ (let k : ◌≡◌ {A = ℕ} 77 68 = cc in absurd (omega arith))), λ p. l),
-  (e, y ∙ ap (λ k. signed k m) q),
 )

@@ -4,7 +4,7 @@ use Rattle.std.specs.Borrow.{Bor}
 use Rattle.notation.specs.declared.classes.Class.TheVariants.{Capital}
 use Rattle.std.specs.Option.{option_map}
 use Rattle.pieces.specs.Cuts.{Takes}
-use Rattle.pieces.specs.Notation.{Of, Proper, print, Fit, Finds, dec, opt, both, lead, units}
+use Rattle.pieces.specs.Notation.{Notation, Of, Proper, print, Fit, Finds, dec, opt, both, lead, units}
 use Rattle.pieces.specs.Plain.{plain, signed, negative}
 use Rattle.pieces.specs.declared.decimals.Decimal.{Decimal}
 use Rattle.fields.specs.Table.{minus, amount, bonus}
@@ -19,6 +19,10 @@ sizes q x = (units q x.0, x.1)
 
 abbrev pub signed_of : ℕ × Bool → ℤ
 signed_of x = signed x.0 x.1
+
+-- what it comes to
+abbrev pub signed_units : ℕ → Signed → ℤ
+signed_units q x = signed_of (sizes q x)
 
 -- how z is written: the plain digits of its size, and /N below zero
 abbrev pub signed_pieces : ℕ → ℤ → Signed
@@ -50,15 +54,10 @@ Follows (a ∷ b ∷ []) = ⊥
 Follows (a ∷ b ∷ c ∷ t) = (a ≡ 47) × Of Capital b × Of Capital c
 
 -- an amount at the front, if one stands there, and the rest; or what stands there is none
-abbrev pub TakesAmount : List ℕ → Option (Option (ℕ × Bool) × Bor (List ℕ)) → Type 0
+abbrev pub TakesAmount : List ℕ → Option (Option ℤ × Bor (List ℕ)) → Type 0
 TakesAmount s None = (v : Option Signed) (w : List ℕ) → Proper (opt amount) v → s ≡ print (opt amount) v ++ w → Follows w → ⊥
-TakesAmount s (Some x) = (v : Option Signed) × Takes (opt amount) Follows s v x.1.now × (x.0 ≡ option_map (sizes 2) v)
+TakesAmount s (Some x) = (v : Option Signed) × Takes (opt amount) Follows s v x.1.now × (x.0 ≡ option_map (signed_units 2) v)
 
--- an optional discount, and an optional bonus after a slash
-abbrev pub Discounts : List ℕ → Option (Option ℕ) → Type 0
-Discounts s None = Finds (opt (dec 7 2)) s None
-Discounts s (Some x) = (v : Option (List ℕ × List ℕ)) × Fit (opt (dec 7 2)) s v × (x ≡ option_map (units 2) v)
-
-abbrev pub Bonuses : List ℕ → Option (Option (ℕ × Bool)) → Type 0
-Bonuses s None = Finds (opt (lead (codes "/") bonus)) s None
-Bonuses s (Some x) = (v : Option Signed) × Fit (opt (lead (codes "/") bonus)) s v × (x ≡ option_map (sizes 3) v)
+-- a bonus stands behind a slash
+abbrev pub slash_bonus : Notation
+slash_bonus = lead (codes "/") bonus

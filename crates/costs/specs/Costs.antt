@@ -1,22 +1,19 @@
 -- What the fields 71B, 71C and 71D mean.
-use Rattle.std.specs.Prelude.{◌≡◌, ℕ, ◌/◌, ◌%◌, ◌^◌, ◌<◌, ◌≤◌, Bool, true, ◌⊎◌, List, [], length, ℤ, is_some, Some, None, Ok, Err, codes, Option, Result, ◌≢◌, unsigned_abs}
+use Rattle.std.specs.Prelude.{◌≡◌, ℕ, ◌/◌, ◌%◌, ◌^◌, ◌<◌, ◌≤◌, true, ◌⊎◌, List, length, ℤ, is_some, Some, None, Ok, Err, codes, Option, Result, unsigned_abs}
 use Rattle.notation.specs.declared.refusals.Why.{Why}
 use Rattle.notation.specs.declared.refusals.Why.TheVariants.{Notation as NotNotation, Code, Moment, Pieces}
 use Rattle.std.specs.Option.{option_map}
-use Rattle.pieces.specs.Notation.{Value, Fit, Finds, units, opt, lead}
+use Rattle.pieces.specs.Notation.{Notation, Value, Fit, Finds, units, lead}
 use Rattle.pieces.specs.Plain.{plain, signed}
 use Rattle.pieces.specs.Rows.{Row, Always}
 use Rattle.fields.specs.Table.{rebate_form, brokerage_form, charges_form, commission}
-use Rattle.costs.specs.Amounts.{Signed, sizes, signed_of, signed_pieces, Measures}
-use Rattle.pieces.specs.declared.decimals.Decimal.{Decimal}
+use Rattle.costs.specs.Amounts.{Signed, sizes, signed_of, signed_pieces}
 use Rattle.costs.specs.declared.brokerage.Brokerage.{Brokerage}
 use Rattle.costs.specs.declared.brokerage.Brokerage.TheVariants.{Agreed, Free, FreeOfAll, Half}
 use Rattle.costs.specs.declared.charges.Charges.{Charges}
 use Rattle.costs.specs.declared.charges.Commission.{Commission}
 use Rattle.costs.specs.declared.charges.Commission.TheVariants.{Amount, PerMille}
 use Rattle.costs.specs.declared.rebate.Rebate.{Rebate}
-use Rattle.costs.specs.declared.charges.Basis.{Basis}
-use Rattle.costs.specs.declared.charges.Basis.TheVariants.{ByAmount, ByRate}
 
 -- 71B: a discount in hundredths, and a bonus rate in thousandths of a percent, which /N makes negative
 abbrev pub row71b : Row Rebate
@@ -96,38 +93,35 @@ row71d = record {
   pieces = λ t. (option_map (signed_pieces 2) t.expenses, option_map commission_pieces t.commission);
 }
 
--- the basis that a code stands for
-abbrev pub basis_letters : Basis → List ℕ
-basis_letters ByAmount = codes "PD"
-basis_letters ByRate = codes "PM"
+-- what the code and the decimal of a commission answer
+abbrev pub Told : List ℕ × Signed → Result Commission Why → Type 0
+Told x (Ok c) = ListedCommission (Some x) × FitWidth (Some x) × Commissioned (Some x) (Some c)
+Told x (Err NotNotation) = ⊥
+Told x (Err Code) = ListedCommission (Some x) → ⊥
+Told x (Err Moment) = ⊥
+Told x (Err Pieces) = ListedCommission (Some x) × (FitWidth (Some x) → ⊥)
 
-abbrev pub CodeOf : List ℕ → Option Basis → Type 0
-CodeOf c None = (b : Basis) → c ≢ basis_letters b
-CodeOf c (Some b) = c ≡ basis_letters b
+-- a commission behind a slash: what its code and its decimal answer
+abbrev pub slash_commission : Notation
+slash_commission = lead (codes "/") commission
 
--- an optional commission after a slash: its basis, its decimal and its sign
-abbrev pub Commissions : List ℕ → Option (Option (Option Basis × Decimal × Bool)) → Type 0
-Commissions s None = Finds (opt (lead (codes "/") commission)) s None
-Commissions s (Some None) = s ≡ []
-Commissions s (Some (Some x)) = (c : List ℕ) × (d : List ℕ × List ℕ) × Fit (lead (codes "/") commission) s (c, (d, x.2)) × Measures 3 x.1 d × CodeOf c x.0
+abbrev pub GivesCommission : List ℕ → Option (Result Commission Why) → Type 0
+GivesCommission s None = Finds slash_commission s None
+GivesCommission s (Some r) = (v : List ℕ × Signed) × Fit slash_commission s v × Told v r
 
--- the pieces of 71B, 71C and 71D as they are cut, before codes and widths are looked at
-abbrev pub CutRebate : List ℕ → Option (Option ℕ × Option (ℕ × Bool)) → Type 0
-CutRebate s None = Finds rebate_form s None
-CutRebate s (Some x) = (v : Value rebate_form) × Fit rebate_form s v × (x.0 ≡ option_map (units 2) v.0) × (x.1 ≡ option_map (sizes 3) v.1)
-
-abbrev pub CutBrokerage : List ℕ → Option (Option (ℕ × Bool) × Option (List ℕ)) → Type 0
+-- the pieces of 71C and 71D as they are cut, before the agreement of the pieces is looked at
+abbrev pub CutBrokerage : List ℕ → Option (Option ℤ × Option (List ℕ)) → Type 0
 CutBrokerage s None = Finds brokerage_form s None
-CutBrokerage s (Some x) = (v : Value brokerage_form) × Fit brokerage_form s v × (x.0 ≡ option_map (sizes 2) v.0) × (x.1 ≡ v.1)
+CutBrokerage s (Some x) = (v : Value brokerage_form) × Fit brokerage_form s v × (x.0 ≡ amount_of v.0) × (x.1 ≡ v.1)
 
-abbrev pub SameCommission : Option (Option Basis × Decimal × Bool) → Option (List ℕ × Signed) → Type 0
-SameCommission None v = v ≡ None
-SameCommission (Some x) None = ⊥
-SameCommission (Some x) (Some y) = CodeOf y.0 x.0 × Measures 3 x.1 y.1.0 × (x.2 ≡ y.1.1)
+abbrev pub OfCommission : Option (Result Commission Why) → Option (List ℕ × Signed) → Type 0
+OfCommission None v = v ≡ None
+OfCommission (Some r) None = ⊥
+OfCommission (Some r) (Some y) = Told y r
 
-abbrev pub CutCharges : List ℕ → Option (Option (ℕ × Bool) × Option (Option Basis × Decimal × Bool)) → Type 0
+abbrev pub CutCharges : List ℕ → Option (Option ℤ × Option (Result Commission Why)) → Type 0
 CutCharges s None = Finds charges_form s None
-CutCharges s (Some x) = (v : Value charges_form) × Fit charges_form s v × (x.0 ≡ option_map (sizes 2) v.0) × SameCommission x.1 v.1
+CutCharges s (Some x) = (v : Value charges_form) × Fit charges_form s v × (x.0 ≡ amount_of v.0) × OfCommission x.1 v.1
 
 -- what an amount and a code that are there answer
 abbrev pub Brokers : Option ℤ → Option (List ℕ) → Result Brokerage Why → Type 0
@@ -136,14 +130,6 @@ Brokers a c (Err NotNotation) = ⊥
 Brokers a c (Err Code) = ListedCharge c → ⊥
 Brokers a c (Err Moment) = ⊥
 Brokers a c (Err Pieces) = ListedCharge c × (AmountWithAC a c → ⊥)
-
--- what the code and the decimal of a commission answer
-abbrev pub Told : List ℕ × Signed → Result Commission Why → Type 0
-Told x (Ok c) = ListedCommission (Some x) × FitWidth (Some x) × Commissioned (Some x) (Some c)
-Told x (Err NotNotation) = ⊥
-Told x (Err Code) = ListedCommission (Some x) → ⊥
-Told x (Err Moment) = ⊥
-Told x (Err Pieces) = ListedCommission (Some x) × (FitWidth (Some x) → ⊥)
 
 -- how large a commission can be: what the notation holds, and what the width after PM holds
 abbrev pub Holds : Option Commission → Type 0

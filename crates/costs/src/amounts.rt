@@ -1,6 +1,6 @@
 // Amounts that may be left out and may be negative.
-ghost use Rattle.std.specs.Prelude.{◌≡◌, ℕ, ◌^◌, ◌<◌, min, List, ◌∷◌, IfSome, Decides, MatchOption};
-ghost use Rattle.costs.specs.Amounts.{signed_of, Follows, SignedDecimal, TakesAmount, Within, signed_pieces};
+ghost use Rattle.std.specs.Prelude.{◌≡◌, ℕ, ◌^◌, ◌<◌, min, List, ◌∷◌, Decides, MatchOption};
+ghost use Rattle.costs.specs.Amounts.{Follows, SignedDecimal, TakesAmount, Within, signed_pieces};
 ghost use Rattle.fields.specs.Table.{minus};
 ghost use Rattle.pieces.specs.Cuts.{Takes, Stops, NotSlash};
 ghost use Rattle.pieces.specs.Notation.{Finds, print, both, dec, opt};
@@ -8,7 +8,7 @@ ghost use Rattle.pieces.specs.Plain.{places, signed, negative};
 ghost use Rattle.pieces.specs.Scratches.{Grown};
 ghost use Rattle.std.specs.Option.{option_map};
 
-use pieces::cuts::{after, split_slash};
+use pieces::cuts::split_slash;
 use pieces::decimals::{Decimal, Scale, read_decimal};
 use pieces::scratch::Scratch;
 
@@ -16,17 +16,15 @@ use pieces::scratch::Scratch;
 fn read_minus(s: &[u8]) -> Option<bool>
     ensures { Finds minus s.now result }
 {
-    if s.len() == 0 {
-        return Some(false);
+    match s {
+        b"" => Some(false),
+        b"/N" => Some(true),
+        _ => None,
     }
-    let rest = after(after(s, b'/')?, b'N')?;
-    if rest.len() > 0 {
-        return None;
-    }
-    Some(true)
 }
 
-// A decimal of at most so many whole digits, and whether `/N` follows.
+// A decimal of at most so many whole digits, and whether `/N` follows. A pair, as the notation's own value is, since a
+// commission is cut to its scale before it has a sign.
 pub(crate) fn signed_decimal(s: &[u8], whole: usize, scale: Scale) -> Option<(Decimal, bool)>
     ensures { SignedDecimal (min whole 13) (places scale) s.now result }
 {
@@ -40,15 +38,11 @@ pub(crate) fn signed_decimal(s: &[u8], whole: usize, scale: Scale) -> Option<(De
 fn after_minus(s: &[u8]) -> Option<&[u8]>
     ensures { MatchOption result ((t : List ℕ) → s.now ≡ 47 ∷ 78 ∷ t → Stops NotSlash t → ⊥) (λ t. (s.now ≡ 47 ∷ 78 ∷ t.now) × Stops NotSlash t.now) }
 {
-    let rest = after(after(s, b'/')?, b'N')?;
-    if rest.is_empty() || rest[0] == b'/' {
-        Some(rest)
-    } else {
-        None
-    }
+    let rest = s.strip_prefix(b"/N")?;
+    matches!(rest, [] | [b'/', ..]).then_some(rest)
 }
 
-// Whether `/N` stands in front of a piece or the end, and what follows.
+// Whether `/N` stands in front of a piece or the end, and what follows. By map_or it was tried, and the proof did not close.
 fn take_minus(s: &[u8]) -> (bool, &[u8])
     ensures { Takes minus Follows s.now result.0 result.1.now }
 {
@@ -59,16 +53,16 @@ fn take_minus(s: &[u8]) -> (bool, &[u8])
 }
 
 // An amount of money at the front, if one stands there, and the rest.
-pub(crate) fn take_amount(s: &[u8]) -> Option<(Option<(u64, bool)>, &[u8])>
+pub(crate) fn take_amount(s: &[u8]) -> Option<(Option<i64>, &[u8])>
     ensures { TakesAmount s.now result }
 {
     let (head, tail) = split_slash(s);
-    if head.len() == 0 {
+    if head.is_empty() {
         return Some((None, s));
     }
     let d = read_decimal(head, 7, Scale::Hundredths)?;
     let (negative, rest) = take_minus(tail);
-    Some((Some((d.units, negative)), rest))
+    Some((Some(signed(d.units, negative)), rest))
 }
 
 pub(crate) fn signed(size: u64, negative: bool) -> i64
@@ -82,25 +76,11 @@ pub(crate) fn signed(size: u64, negative: bool) -> i64
     }
 }
 
-// What an optional amount comes to.
-pub(crate) fn amount_of(piece: Option<(u64, bool)>) -> Option<i64>
-    requires { IfSome piece (λ x. x.0 < 2 ^ 63) }
-    ensures { result ≡ option_map signed_of piece }
-{
-    match piece {
-        Some((size, negative)) => Some(signed(size, negative)),
-        None => None,
-    }
-}
-
 // Whether an amount is left out, or its size is below the limit.
 pub(crate) fn within(amount: Option<i64>, limit: u64) -> bool
     ensures { Decides result (Within limit amount) }
 {
-    match amount {
-        Some(z) => z.unsigned_abs() < limit,
-        None => true,
-    }
+    amount.is_none_or(|z| z.unsigned_abs() < limit)
 }
 
 fn write_minus(out: &mut Scratch, z: i64)

@@ -1,17 +1,16 @@
 // Field 71D: expenses and commission.
-ghost use Rattle.std.specs.Prelude.{◌≡◌, ℕ, ◌^◌, ◌<◌, ◌||◌, List, is_some};
+ghost use Rattle.std.specs.Prelude.{◌≡◌, ◌^◌, ◌<◌, ◌||◌, List, ℕ, is_some};
 ghost use Rattle.costs.specs.Amounts.{Measures};
-ghost use Rattle.costs.specs.Costs.{row71d, Commissions, CutCharges, CodeOf, Told, Limits, commission_pieces};
+ghost use Rattle.costs.specs.Costs.{row71d, GivesCommission, CutCharges, Told, Limits, commission_pieces};
 ghost use Rattle.fields.specs.Table.{commission as commission_form};
 ghost use Rattle.pieces.specs.Notation.{print};
-ghost use Rattle.pieces.specs.Rows.{Reads, Checks, text_of};
 ghost use Rattle.pieces.specs.Scratches.{Grown};
 
-use crate::amounts::{
-    amount_of, signed, signed_decimal, take_amount, within, write_amount, write_signed,
-};
+use crate::amounts::{signed, signed_decimal, take_amount, within, write_amount, write_signed};
+use fields::codes::optional;
 use notation::classes::Class;
 use notation::refusals::Why;
+use pieces::contents::Contents;
 use pieces::cuts::{after, front_of};
 use pieces::decimals::{Decimal, Scale};
 use pieces::scratch::Scratch;
@@ -31,89 +30,45 @@ pub enum Commission {
     PerMille(i64),
 }
 
-// What a commission is given as.
-#[derive(Clone, Copy)]
-enum Basis {
-    // PD
-    ByAmount,
-    // PM
-    ByRate,
-}
-
-fn optional_commission(s: &[u8]) -> Option<Option<(Option<Basis>, Decimal, bool)>>
-    ensures { Commissions s.now result }
-{
-    if s.len() == 0 {
-        return Some(None);
-    }
-    let (code, rest) = front_of(after(s, b'/')?, 2, Class::Capital)?;
-    let (d, negative) = signed_decimal(rest, 7, Scale::Thousandths)?;
-    Some(Some((basis_of([code[0], code[1]]), d, negative)))
-}
-
-fn cut_charges(s: &[u8]) -> Option<(Option<(u64, bool)>, Option<(Option<Basis>, Decimal, bool)>)>
-    ensures { CutCharges s.now result }
-{
-    if s.len() == 0 {
-        return None;
-    }
-    let (expenses, rest) = take_amount(s)?;
-    Some((expenses, optional_commission(rest)?))
-}
-
-fn basis_of(code: [u8; 2]) -> Option<Basis>
-    ensures { CodeOf code result }
-{
-    match &code {
-        b"PD" => Some(Basis::ByAmount),
-        b"PM" => Some(Basis::ByRate),
-        _ => None,
-    }
-}
-
 // After PD at most two fraction digits stand, after PM at most two whole ones.
-fn commission_of(basis: Option<Basis>, d: Decimal, negative: bool) -> Result<Commission, Why>
+fn commission_of(code: &[u8], d: Decimal, negative: bool) -> Result<Commission, Why>
     requires { d.units < 2 ^ 63 }
-    ensures { (c : List ℕ) (w : List ℕ × List ℕ) → CodeOf c basis → Measures 3 d w → Told (c, (w, negative)) result }
+    ensures { (w : List ℕ × List ℕ) → Measures 3 d w → Told (code.now, (w, negative)) result }
 {
-    let Some(known) = basis else {
-        return Err(Why::Code);
-    };
-    match known {
-        Basis::ByAmount => {
+    match code {
+        b"PD" => {
             if d.fraction > 2 {
                 return Err(Why::Pieces);
             }
             Ok(Commission::Amount(signed(d.units / 10, negative)))
         }
-        Basis::ByRate => {
+        b"PM" => {
             if d.whole > 2 {
                 return Err(Why::Pieces);
             }
             Ok(Commission::PerMille(signed(d.units, negative)))
         }
+        _ => Err(Why::Code),
     }
 }
 
-// Reads the contents of field 71D.
-pub fn read_charges(s: &[u8]) -> Result<Charges, Why>
-    ensures as_the_row_has_it { Reads row71d s.now result }
+// A slash, a code and a decimal: the commission, or what is wrong with it.
+fn read_commission(s: &[u8]) -> Option<Result<Commission, Why>>
+    ensures { GivesCommission s.now result }
 {
-    let Some((expenses, piece)) = cut_charges(s) else {
-        return Err(Why::Notation);
-    };
-    let expenses = amount_of(expenses);
-    let Some((basis, d, negative)) = piece else {
-        return Ok(Charges {
-            expenses,
-            commission: None,
-        });
-    };
-    let commission = commission_of(basis, d, negative)?;
-    Ok(Charges {
-        expenses,
-        commission: Some(commission),
-    })
+    let (code, rest) = front_of(after(s, b'/')?, 2, Class::Capital)?;
+    let (d, negative) = signed_decimal(rest, 7, Scale::Thousandths)?;
+    Some(commission_of(code, d, negative))
+}
+
+fn cut_charges(s: &[u8]) -> Option<(Option<i64>, Option<Result<Commission, Why>>)>
+    ensures { CutCharges s.now result }
+{
+    if s.is_empty() {
+        return None;
+    }
+    let (expenses, rest) = take_amount(s)?;
+    Some((expenses, optional(rest, read_commission)?))
 }
 
 fn write_commission(out: &mut Scratch, commission: Commission)
@@ -161,11 +116,21 @@ impl Charges {
     {
         self.expenses.is_some() || self.commission.is_some()
     }
+}
 
-    // What is wrong with them, were they written.
-    pub fn check(&self) -> Result<(), Why>
-        ensures as_its_contents_would { Checks row71d self.now result }
-    {
+impl Contents for Charges {
+    ghost format = { row71d };
+
+    fn read(s: &[u8]) -> Result<Charges, Why> {
+        let (expenses, commission) = cut_charges(s).ok_or(Why::Notation)?;
+        let commission = commission.transpose()?;
+        Ok(Charges {
+            expenses,
+            commission,
+        })
+    }
+
+    fn check(&self) -> Result<(), Why> {
         if !self.stand() {
             return Err(Why::Notation);
         }
@@ -175,10 +140,7 @@ impl Charges {
         limits(self.commission)
     }
 
-    // Writes the contents of field 71D.
-    pub fn write(&self, out: &mut Scratch)
-        ensures as_the_row_has_it { Grown out.old out.new (text_of row71d self.now) }
-    {
+    fn write(&self, out: &mut Scratch) {
         write_amount(out, self.expenses, Scale::Hundredths);
         if let Some(commission) = self.commission {
             out.push(b'/');

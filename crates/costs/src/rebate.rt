@@ -1,15 +1,17 @@
 // Field 71B: rebates.
 ghost use Rattle.std.specs.Prelude.{◌≡◌, ◌<◌, ◌||◌, is_some, Decides};
-ghost use Rattle.costs.specs.Amounts.{Discounts, Bonuses, WithinPlain};
-ghost use Rattle.costs.specs.Costs.{row71b, CutRebate};
-ghost use Rattle.pieces.specs.Notation.{print, opt, dec};
+ghost use Rattle.costs.specs.Amounts.{signed_units, slash_bonus, WithinPlain};
+ghost use Rattle.costs.specs.Costs.{row71b};
+ghost use Rattle.fields.specs.Codes.{Gives, Sees};
+ghost use Rattle.pieces.specs.Notation.{print, opt, dec, units};
 ghost use Rattle.pieces.specs.Plain.{plain};
-ghost use Rattle.pieces.specs.Rows.{Reads, Checks, text_of};
 ghost use Rattle.pieces.specs.Scratches.{Grown};
 ghost use Rattle.std.specs.Option.{option_map};
 
-use crate::amounts::{amount_of, signed_decimal, within, write_signed};
+use crate::amounts::{signed, signed_decimal, within, write_signed};
+use fields::codes::optional;
 use notation::refusals::Why;
+use pieces::contents::Contents;
 use pieces::cuts::{after, split_slash};
 use pieces::decimals::{Scale, read_decimal};
 use pieces::scratch::Scratch;
@@ -22,60 +24,40 @@ pub struct Rebate {
     pub bonus: Option<i64>,
 }
 
-fn optional_discount(s: &[u8]) -> Option<Option<u64>>
-    ensures { Discounts s.now result }
+fn read_discount(s: &[u8]) -> Option<u64>
+    ensures { Gives (dec 7 2) (units 2) s.now result }
 {
-    if s.len() == 0 {
-        return Some(None);
-    }
-    let d = read_decimal(s, 7, Scale::Hundredths)?;
-    Some(Some(d.units))
+    read_decimal(s, 7, Scale::Hundredths).map(|d| d.units)
 }
 
-fn optional_bonus(s: &[u8]) -> Option<Option<(u64, bool)>>
-    ensures { Bonuses s.now result }
+// A bonus stands behind a slash.
+fn read_bonus(s: &[u8]) -> Option<i64>
+    ensures { Gives slash_bonus (signed_units 3) s.now result }
 {
-    if s.len() == 0 {
-        return Some(None);
-    }
     let (d, negative) = signed_decimal(after(s, b'/')?, 2, Scale::Thousandths)?;
-    Some(Some((d.units, negative)))
+    Some(signed(d.units, negative))
 }
 
-fn cut_rebate(s: &[u8]) -> Option<(Option<u64>, Option<(u64, bool)>)>
-    ensures { CutRebate s.now result }
+fn cut_rebate(s: &[u8]) -> Option<Rebate>
+    ensures { Sees row71b s.now result }
 {
-    if s.len() == 0 {
+    if s.is_empty() {
         return None;
     }
     let (head, tail) = split_slash(s);
-    let discount = optional_discount(head)?;
-    let bonus = optional_bonus(tail)?;
-    Some((discount, bonus))
+    let discount = optional(head, read_discount)?;
+    let bonus = optional(tail, read_bonus)?;
+    Some(Rebate { discount, bonus })
 }
 
-// Reads the contents of field 71B.
-pub fn read_rebate(s: &[u8]) -> Result<Rebate, Why>
-    ensures as_the_row_has_it { Reads row71b s.now result }
-{
-    match cut_rebate(s) {
-        Some((discount, bonus)) => Ok(Rebate {
-            discount,
-            bonus: amount_of(bonus),
-        }),
-        None => Err(Why::Notation),
-    }
-}
-
+// The sizes here are u64, those of `within` i64: one function for both would take a map to sizes at each of its other calls.
 fn small(discount: Option<u64>) -> bool
     ensures { Decides result (WithinPlain 1000000000 discount) }
 {
-    match discount {
-        Some(n) => n < 1_000_000_000,
-        None => true,
-    }
+    discount.is_none_or(|n| n < 1_000_000_000)
 }
 
+// A discount has no sign, so it is not an amount: one function for both would take how a size is written, with this contract on it.
 fn write_discount(out: &mut Scratch, discount: Option<u64>)
     ensures { Grown out.old out.new (print (opt (dec 0 0)) (option_map (plain 2) discount)) }
 {
@@ -85,17 +67,22 @@ fn write_discount(out: &mut Scratch, discount: Option<u64>)
 }
 
 impl Rebate {
-    // Whether it has a piece.
+    // Whether it has a piece. Charges ask the same of other fields; a function of two Options would name neither.
     fn stands(&self) -> bool
         ensures { result ≡ (is_some self.now.discount || is_some self.now.bonus) }
     {
         self.discount.is_some() || self.bonus.is_some()
     }
+}
 
-    // What is wrong with it, were it written.
-    pub fn check(&self) -> Result<(), Why>
-        ensures as_its_contents_would { Checks row71b self.now result }
-    {
+impl Contents for Rebate {
+    ghost format = { row71b };
+
+    fn read(s: &[u8]) -> Result<Rebate, Why> {
+        cut_rebate(s).ok_or(Why::Notation)
+    }
+
+    fn check(&self) -> Result<(), Why> {
         if !self.stands() {
             return Err(Why::Notation);
         }
@@ -108,10 +95,7 @@ impl Rebate {
         Ok(())
     }
 
-    // Writes the contents of field 71B.
-    pub fn write(&self, out: &mut Scratch)
-        ensures as_the_row_has_it { Grown out.old out.new (text_of row71b self.now) }
-    {
+    fn write(&self, out: &mut Scratch) {
         write_discount(out, self.discount);
         if let Some(bonus) = self.bonus {
             out.push(b'/');

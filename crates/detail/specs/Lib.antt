@@ -4,3 +4,4 @@ pub mod Reading
 pub mod Writing
 pub mod Laws
 pub mod Readings
+pub mod Words

@@ -1,12 +1,13 @@
 // The codes of field 31P: exchanges, and how a fixed value date is settled.
-ghost use Rattle.std.specs.Prelude.{◌≡◌, Bool, codes, Decides, MatchOption, ◌≢◌};
-ghost use Rattle.detail.specs.Codes.{place_number, kind_letters, issue_mark};
-ghost use Rattle.detail.specs.Reading.{coded, Coded};
-ghost use Rattle.detail.specs.Detail.{IfThere, KindListed, Listed};
-ghost use Rattle.detail_cut.specs.Form.{seen, seen_coded, value_of};
-ghost use Rattle.std.specs.Option.{option_map};
+ghost use Rattle.std.specs.Prelude.{◌≡◌, MatchResult, Some};
+ghost use Rattle.detail.specs.Words.{place_words, settlement_words};
+ghost use Rattle.detail.specs.Codes.{place_number, kind_letters};
+ghost use Rattle.detail.specs.Reading.{PlaceOf, KindOf, MarkOf, Settled, Coded, Unlisted};
+ghost use Rattle.detail_cut.specs.Form.{seen, value_of};
 
 use detail_cut::cut::DetailPieces;
+use notation::refusals::Why;
+use std::fmt;
 
 // The exchange at which a trade was made.
 #[derive(Clone, Copy, PartialEq, Eq, Debug)]
@@ -38,77 +39,109 @@ pub enum SettlementKind {
     AgainstPayment,
 }
 
-pub(crate) fn place_of(n: u32) -> Option<Place>
-    ensures { MatchOption result ((p : Place) → n ≢ place_number p) (λ p. n ≡ place_number p) }
-{
-    match n {
-        100 => Some(Place::Berlin),
-        120 => Some(Place::Duesseldorf),
-        130 => Some(Place::Frankfurt),
-        140 => Some(Place::Hamburg),
-        150 => Some(Place::Hannover),
-        160 => Some(Place::Munich),
-        170 => Some(Place::Stuttgart),
-        _ => None,
+impl fmt::Display for Place {
+    ghost output = { λ p. Some (place_words p) };
+
+    fn fmt<W: fmt::Write>(&self, f: &mut fmt::Formatter<W>) -> fmt::Result {
+        f.write_str(match self {
+            Place::Berlin => "Berlin (100)",
+            Place::Duesseldorf => "Duesseldorf (120)",
+            Place::Frankfurt => "Frankfurt (130)",
+            Place::Hamburg => "Hamburg (140)",
+            Place::Hannover => "Hannover (150)",
+            Place::Munich => "Munich (160)",
+            Place::Stuttgart => "Stuttgart (170)",
+        })
     }
 }
 
-pub(crate) fn number_of(place: Place) -> u32
-    ensures { result ≡ place_number place }
-{
-    match place {
-        Place::Berlin => 100,
-        Place::Duesseldorf => 120,
-        Place::Frankfurt => 130,
-        Place::Hamburg => 140,
-        Place::Hannover => 150,
-        Place::Munich => 160,
-        Place::Stuttgart => 170,
+impl fmt::Display for SettlementKind {
+    ghost output = { λ k. Some (settlement_words k) };
+
+    fn fmt<W: fmt::Write>(&self, f: &mut fmt::Formatter<W>) -> fmt::Result {
+        f.write_str(match self {
+            SettlementKind::WithoutCountervalue => "FO, countervalue not cleared",
+            SettlementKind::WithCountervalue => "FV, countervalue cleared",
+            SettlementKind::AgainstPayment => "FZ, delivery against payment",
+        })
     }
 }
 
-pub(crate) fn kind_of(code: &[u8]) -> Option<SettlementKind>
-    ensures { MatchOption result ((k : SettlementKind) → code.now ≢ kind_letters k) (λ k. code.now ≡ kind_letters k) }
-{
-    match code {
-        b"FO" => Some(SettlementKind::WithoutCountervalue),
-        b"FV" => Some(SettlementKind::WithCountervalue),
-        b"FZ" => Some(SettlementKind::AgainstPayment),
-        _ => None,
+impl TryFrom<u32> for Place {
+    type Error = Why;
+
+    ghost try_from_gives = { PlaceOf };
+
+    fn try_from(number: u32) -> Result<Place, Why> {
+        match number {
+            100 => Ok(Place::Berlin),
+            120 => Ok(Place::Duesseldorf),
+            130 => Ok(Place::Frankfurt),
+            140 => Ok(Place::Hamburg),
+            150 => Ok(Place::Hannover),
+            160 => Ok(Place::Munich),
+            170 => Ok(Place::Stuttgart),
+            _ => Err(Why::Code),
+        }
     }
 }
 
-pub(crate) fn letters_of(kind: SettlementKind) -> [u8; 2]
-    ensures { result ≡ kind_letters kind }
-{
-    match kind {
-        SettlementKind::WithoutCountervalue => *b"FO",
-        SettlementKind::WithCountervalue => *b"FV",
-        SettlementKind::AgainstPayment => *b"FZ",
+impl From<Place> for u32 {
+    ghost from_gives = { λ place n. n ≡ place_number place };
+
+    fn from(place: Place) -> u32 {
+        match place {
+            Place::Berlin => 100,
+            Place::Duesseldorf => 120,
+            Place::Frankfurt => 130,
+            Place::Hamburg => 140,
+            Place::Hannover => 150,
+            Place::Munich => 160,
+            Place::Stuttgart => 170,
+        }
     }
 }
 
-fn is_new_issue(code: &[u8]) -> bool
-    ensures { Decides result (code.now ≡ codes "EM") }
-{
-    match code {
-        b"EM" => true,
-        _ => false,
+impl TryFrom<&[u8]> for SettlementKind {
+    type Error = Why;
+
+    ghost try_from_gives = { λ code r. KindOf code.now r };
+
+    fn try_from(code: &[u8]) -> Result<SettlementKind, Why> {
+        match code {
+            b"FO" => Ok(SettlementKind::WithoutCountervalue),
+            b"FV" => Ok(SettlementKind::WithCountervalue),
+            b"FZ" => Ok(SettlementKind::AgainstPayment),
+            _ => Err(Why::Code),
+        }
     }
 }
 
-// Whether the mark of a new issue stands.
-pub(crate) fn marked(mark: Option<&[u8]>) -> Option<bool>
-    ensures { MatchOption result ((b : Bool) → seen mark.entry ≢ issue_mark b) (λ b. seen mark.entry ≡ issue_mark b) }
+impl From<SettlementKind> for [u8; 2] {
+    ghost from_gives = { λ kind letters. letters ≡ kind_letters kind };
+
+    fn from(kind: SettlementKind) -> [u8; 2] {
+        match kind {
+            SettlementKind::WithoutCountervalue => *b"FO",
+            SettlementKind::WithCountervalue => *b"FV",
+            SettlementKind::AgainstPayment => *b"FZ",
+        }
+    }
+}
+
+// Whether the mark of a new issue stands. Field 23 has the like over copied letters and another code.
+fn marked(mark: Option<&[u8]>) -> Result<bool, Why>
+    ensures { MarkOf (seen mark.entry) result }
 {
     match mark {
-        None => Some(false),
-        Some(code) => if is_new_issue(code) { Some(true) } else { None },
+        None => Ok(false),
+        Some(b"EM") => Ok(true),
+        Some(_) => Err(Why::Code),
     }
 }
 
 // What the codes of a field say.
-#[derive(Clone, Copy)]
+#[derive(Clone, Copy, PartialEq, Eq, Debug)]
 pub(crate) struct Codes {
     pub(crate) place: Place,
     // and the value date's digits
@@ -116,23 +149,21 @@ pub(crate) struct Codes {
     pub(crate) new_issue: bool,
 }
 
-fn settled(piece: Option<(&[u8], u32)>) -> Option<Option<(SettlementKind, u32)>>
-    ensures { MatchOption result (IfThere KindListed (seen_coded piece.entry) → ⊥) (λ x. seen_coded piece.entry ≡ option_map coded x) }
+// How a trade is settled that has a code and the digits of a value date.
+fn settled(coded: (&[u8], u32)) -> Result<(SettlementKind, u32), Why>
+    ensures { Settled (coded.entry.0.now, coded.entry.1) result }
 {
-    match piece {
-        None => Some(None),
-        Some((code, date)) => Some(Some((kind_of(code)?, date))),
-    }
+    Ok((SettlementKind::try_from(coded.0)?, coded.1))
 }
 
 // The codes of the pieces, if all of them are listed.
-pub(crate) fn codes_of(pieces: &DetailPieces<'_>) -> Option<Codes>
-    ensures { MatchOption result (Listed (value_of pieces.now) → ⊥) (Coded (value_of pieces.now)) }
+pub(crate) fn codes_of(pieces: &DetailPieces<'_>) -> Result<Codes, Why>
+    ensures { MatchResult result (Coded (value_of pieces.now)) (Unlisted (value_of pieces.now)) }
 {
-    let place = place_of(pieces.place)?;
-    let settlement = settled(pieces.settlement)?;
+    let place = Place::try_from(pieces.place)?;
+    let settlement = pieces.settlement.map(settled).transpose()?;
     let new_issue = marked(pieces.mark)?;
-    Some(Codes {
+    Ok(Codes {
         place,
         settlement,
         new_issue,

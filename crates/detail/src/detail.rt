@@ -1,9 +1,8 @@
 // The details of a trade.
-ghost use Rattle.std.specs.Prelude.{◌≡◌, ◌<◌, MatchOption};
-ghost use Rattle.detail.specs.Detail.{row31p, IfThere, DateExists, TimeExists, settlement_in, Real, days_of};
-ghost use Rattle.detail.specs.Reading.{coded, settlement_of, Timed};
+ghost use Rattle.std.specs.Prelude.{◌≡◌, ◌<◌, MatchResult};
+ghost use Rattle.detail.specs.Detail.{row31p, IfThere, settlement_in, days_of};
+ghost use Rattle.detail.specs.Reading.{coded, DateAt, TimeAt, SettlementAt, Timed, Untimed};
 ghost use Rattle.detail_cut.specs.Form.{detail_form, value_of};
-ghost use Rattle.pieces.specs.Calendar.{date_of, time_of};
 ghost use Rattle.pieces.specs.Notation.{Proper};
 ghost use Rattle.pieces.specs.Plain.{signed};
 ghost use Rattle.pieces.specs.Rows.{Reads};
@@ -15,14 +14,14 @@ use notation::refusals::Why;
 use pieces::calendar::{Date, Time, date_of, time_of};
 
 // A fixed value date.
-#[derive(Clone, Copy)]
+#[derive(Clone, Copy, PartialEq, Eq, Debug)]
 pub struct Settlement {
     pub kind: SettlementKind,
     pub value_date: Date,
 }
 
 // Field 31P. Zero days are not the same as none.
-#[derive(Clone, Copy)]
+#[derive(Clone, Copy, PartialEq, Eq, Debug)]
 pub struct Detail {
     pub place: Place,
     pub traded: Option<Date>,
@@ -37,7 +36,7 @@ pub struct Detail {
 }
 
 // What the dates and the time of a field say.
-#[derive(Clone, Copy)]
+#[derive(Clone, Copy, PartialEq, Eq, Debug)]
 struct Moments {
     traded: Option<Date>,
     time: Option<Time>,
@@ -45,50 +44,40 @@ struct Moments {
     settlement: Option<Settlement>,
 }
 
-fn date_there(piece: Option<u32>) -> Option<Option<Date>>
-    requires six_digits { IfThere (λ n. n < 1000000) piece }
-    ensures { MatchOption result (IfThere DateExists piece → ⊥) (λ d. IfThere DateExists piece × (d ≡ option_map date_of piece)) }
+// Dates and times are two types, whose readers are two functions; each of these is one line over its own.
+fn date_at(n: u32) -> Result<Date, Why>
+    ensures { DateAt n result }
 {
-    match piece {
-        None => Some(None),
-        Some(n) => Some(Some(date_of(n)?)),
-    }
+    date_of(n).ok_or(Why::Moment)
 }
 
-fn time_there(piece: Option<u32>) -> Option<Option<Time>>
-    requires four_digits { IfThere (λ n. n < 10000) piece }
-    ensures { MatchOption result (IfThere TimeExists piece → ⊥) (λ t. IfThere TimeExists piece × (t ≡ option_map time_of piece)) }
+fn time_at(n: u32) -> Result<Time, Why>
+    ensures { TimeAt n result }
 {
-    match piece {
-        None => Some(None),
-        Some(n) => Some(Some(time_of(n)?)),
-    }
+    time_of(n).ok_or(Why::Moment)
 }
 
-fn settlement_there(piece: Option<(SettlementKind, u32)>) -> Option<Option<Settlement>>
-    requires six_digits { IfThere (λ x. x.1 < 1000000) piece }
-    ensures { MatchOption result (IfThere (λ x. DateExists x.1) piece → ⊥) (λ t. IfThere (λ x. DateExists x.1) piece × (t ≡ option_map settlement_of piece)) }
+fn settlement_at(coded: (SettlementKind, u32)) -> Result<Settlement, Why>
+    ensures { SettlementAt coded result }
 {
-    match piece {
-        None => Some(None),
-        Some((kind, n)) => Some(Some(Settlement {
-            kind,
-            value_date: date_of(n)?,
-        })),
-    }
+    let value_date = date_at(coded.1)?;
+    Ok(Settlement {
+        kind: coded.0,
+        value_date,
+    })
 }
 
 // The dates and the time of the pieces, if all of them exist.
-fn moments_of(pieces: &DetailPieces<'_>, codes: &Codes) -> Option<Moments>
+fn moments_of(pieces: &DetailPieces<'_>, codes: &Codes) -> Result<Moments, Why>
     requires digits { Proper detail_form (value_of pieces.now) }
     requires same { settlement_in (value_of pieces.now) ≡ option_map coded codes.now.settlement }
-    ensures { MatchOption result (Real (value_of pieces.now) → ⊥) (Timed (value_of pieces.now) codes.now.settlement) }
+    ensures { MatchResult result (Timed (value_of pieces.now) codes.now.settlement) (Untimed (value_of pieces.now)) }
 {
-    let traded = date_there(pieces.traded)?;
-    let time = time_there(pieces.time)?;
-    let closing = date_there(pieces.closing)?;
-    let settlement = settlement_there(codes.settlement)?;
-    Some(Moments {
+    let traded = pieces.traded.map(date_at).transpose()?;
+    let time = pieces.time.map(time_at).transpose()?;
+    let closing = pieces.closing.map(date_at).transpose()?;
+    let settlement = codes.settlement.map(settlement_at).transpose()?;
+    Ok(Moments {
         traded,
         time,
         closing,
@@ -103,39 +92,28 @@ fn days(minus: bool, n: u32) -> i16
     if minus { -(n as i16) } else { n as i16 }
 }
 
+// From the pair of the pieces: a size and whether a minus stands.
 fn interest_of(piece: Option<(bool, u32)>) -> Option<i16>
     requires three_digits { IfThere (λ x. x.1 < 1000) piece }
     ensures { result ≡ option_map days_of piece }
 {
-    match piece {
-        None => None,
-        Some((minus, n)) => Some(days(minus, n)),
-    }
+    piece.map(|(minus, n)| days(minus, n))
 }
 
 fn discount_of(piece: Option<u32>) -> Option<u16>
     requires three_digits { IfThere (λ n. n < 1000) piece }
     ensures { result ≡ piece }
 {
-    match piece {
-        None => None,
-        Some(n) => Some(n as u16),
-    }
+    piece.map(|n| n as u16)
 }
 
 // Reads the contents of field 31P.
-pub fn read_detail(s: &[u8]) -> Result<Detail, Why>
-    ensures as_the_row_has_it { Reads row31p s.now result }
+pub(crate) fn read_detail(s: &[u8]) -> Result<Detail, Why>
+    ensures { Reads row31p s.now result }
 {
-    let Some(pieces) = cut_detail(s) else {
-        return Err(Why::Notation);
-    };
-    let Some(codes) = codes_of(&pieces) else {
-        return Err(Why::Code);
-    };
-    let Some(moments) = moments_of(&pieces, &codes) else {
-        return Err(Why::Moment);
-    };
+    let pieces = cut_detail(s).ok_or(Why::Notation)?;
+    let codes = codes_of(&pieces)?;
+    let moments = moments_of(&pieces, &codes)?;
     Ok(Detail {
         place: codes.place,
         traded: moments.traded,

@@ -3,7 +3,7 @@ ghost use Rattle.detail_cut.specs.Form.{AsInTheTable};
 ghost use Rattle.detail.specs.Laws.{OneAnswer, ReadsBack, RefusedExactly, WrittenAlike, AtMost38, NoReturn};
 ghost use Rattle.detail.specs.Readings.{Readings31P};
 
-pub fn details_have_one_form() -> u8
+pub fn details_have_one_form()
     ensures notation_as_in_the_table { AsInTheTable }
     ensures contents_have_one_answer { OneAnswer }
     ensures written_reads_back_as_the_same { ReadsBack }
@@ -12,6 +12,4 @@ pub fn details_have_one_form() -> u8
     ensures written_within_38_bytes { AtMost38 }
     ensures written_without_carriage_return { NoReturn }
     ensures worked_readings { Readings31P }
-{
-    0
-}
+{}

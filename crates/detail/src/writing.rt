@@ -8,77 +8,33 @@ ghost use Rattle.notation.specs.declared.classes.Class.TheVariants.{Capital};
 ghost use Rattle.pieces.specs.Calendar.{stamp, minute_stamp};
 ghost use Rattle.pieces.specs.Notation.{print, number, exactly, opt, sign};
 ghost use Rattle.pieces.specs.Plain.{negative};
-ghost use Rattle.pieces.specs.Rows.{Checks, text_of};
 ghost use Rattle.pieces.specs.Scratches.{Grown};
 ghost use Rattle.std.specs.Option.{option_map};
 
-use crate::codes::{letters_of, number_of};
-use crate::detail::{Detail, Settlement};
+use crate::detail::{Detail, Settlement, read_detail};
 use notation::refusals::Why;
 use pieces::calendar::{Date, Time};
+use pieces::contents::Contents;
 use pieces::scratch::Scratch;
 
-fn date_fits(date: Option<Date>) -> bool
-    ensures { Decides result (IfThere DateFits date) }
+// Whether a date has two digits each for its year from 2000 on, its month and its day, and a time for its hour and its minute: two
+// types, a line for each.
+fn date_fits(date: Date) -> bool
+    ensures { Decides result (DateFits date) }
 {
-    match date {
-        None => true,
-        Some(d) => d.year >= 2000 && d.year <= 2099 && d.month <= 99 && d.day <= 99,
-    }
+    date.year >= 2000 && date.year <= 2099 && date.month <= 99 && date.day <= 99
 }
 
-fn time_fits(time: Option<Time>) -> bool
-    ensures { Decides result (IfThere TimeFits time) }
+fn time_fits(time: Time) -> bool
+    ensures { Decides result (TimeFits time) }
 {
-    match time {
-        None => true,
-        Some(t) => t.hour <= 99 && t.minute <= 99,
-    }
-}
-
-fn interest_fits(days: Option<i16>) -> bool
-    ensures { Decides result (IfThere (λ z. unsigned_abs z < 1000) days) }
-{
-    match days {
-        None => true,
-        Some(z) => z.unsigned_abs() < 1000,
-    }
-}
-
-fn discount_fits(days: Option<u16>) -> bool
-    ensures { Decides result (IfThere (λ n. n < 1000) days) }
-{
-    match days {
-        None => true,
-        Some(n) => n < 1000,
-    }
-}
-
-fn date_exists(date: Option<Date>) -> bool
-    ensures { Decides result (IfThere OfCalendar date) }
-{
-    match date {
-        None => true,
-        Some(d) => d.exists(),
-    }
-}
-
-fn time_exists(time: Option<Time>) -> bool
-    ensures { Decides result (IfThere OfDay time) }
-{
-    match time {
-        None => true,
-        Some(t) => t.exists(),
-    }
+    time.hour <= 99 && time.minute <= 99
 }
 
 fn value_date(settlement: Option<Settlement>) -> Option<Date>
     ensures { result ≡ option_map date_of_settlement settlement }
 {
-    match settlement {
-        None => None,
-        Some(s) => Some(s.value_date),
-    }
+    settlement.map(|s| s.value_date)
 }
 
 // The six digits of a date, and the four of a time, as numbers.
@@ -102,7 +58,7 @@ fn sign_of(days: i16) -> u8
     if days < 0 { b'-' } else { b'+' }
 }
 
-// Each piece is written where it is there.
+// Each piece is written where it is there. A closure for one generic function would have to carry the contract that its function has here.
 fn write_traded(out: &mut Scratch, traded: Option<Date>)
     ensures { Grown out.old out.new (print (opt slash_date) (option_map stamp traded)) }
 {
@@ -133,7 +89,7 @@ fn write_settlement(out: &mut Scratch, settlement: Option<Settlement>)
 {
     if let Some(s) = settlement {
         out.push(b'/');
-        out.append(&letters_of(s.kind));
+        out.append(&<[u8; 2]>::from(s.kind));
         out.digits(6, stamp_of(s.value_date));
     }
 }
@@ -174,28 +130,33 @@ impl Detail {
     fn fits(&self) -> bool
         ensures { Decides result (DetailFits self.now) }
     {
-        date_fits(self.traded)
-            && time_fits(self.time)
-            && date_fits(self.closing)
-            && date_fits(value_date(self.settlement))
-            && interest_fits(self.interest_days)
-            && discount_fits(self.discount_days)
+        self.traded.is_none_or(date_fits)
+            && self.time.is_none_or(time_fits)
+            && self.closing.is_none_or(date_fits)
+            && value_date(self.settlement).is_none_or(date_fits)
+            && self.interest_days.is_none_or(|z| z.unsigned_abs() < 1000)
+            && self.discount_days.is_none_or(|n| n < 1000)
     }
 
     // Whether each date and the time exist.
     fn exists(&self) -> bool
         ensures { Decides result (DetailExists self.now) }
     {
-        date_exists(self.traded)
-            && time_exists(self.time)
-            && date_exists(self.closing)
-            && date_exists(value_date(self.settlement))
+        self.traded.is_none_or(|d| d.exists())
+            && self.time.is_none_or(|t| t.exists())
+            && self.closing.is_none_or(|d| d.exists())
+            && value_date(self.settlement).is_none_or(|d| d.exists())
+    }
+}
+
+impl Contents for Detail {
+    ghost format = { row31p };
+
+    fn read(s: &[u8]) -> Result<Detail, Why> {
+        read_detail(s)
     }
 
-    // What is wrong with them, were they written.
-    pub fn check(&self) -> Result<(), Why>
-        ensures as_its_contents_would { Checks row31p self.now result }
-    {
+    fn check(&self) -> Result<(), Why> {
         if !self.fits() {
             return Err(Why::Notation);
         }
@@ -205,11 +166,8 @@ impl Detail {
         Ok(())
     }
 
-    // Writes the contents of field 31P.
-    pub fn write(&self, out: &mut Scratch)
-        ensures as_the_row_has_it { Grown out.old out.new (text_of row31p self.now) }
-    {
-        out.digits(3, number_of(self.place));
+    fn write(&self, out: &mut Scratch) {
+        out.digits(3, u32::from(self.place));
         write_traded(out, self.traded);
         write_time(out, self.time);
         write_closing(out, self.closing);

@@ -8,10 +8,10 @@ use Rattle.std.proofs.lemmas.List.{take-take, length-take-le, length-append}
 use Rattle.pieces.specs.Cuts.{Front, Takes}
 use Rattle.pieces.specs.Notation.{Notation, Of, Value, Proper, print, Unambiguous, number, exactly, sign, both, opt}
 use Rattle.pieces.proofs.Forms.{Sized, sized_number, sized_exactly, sized_sign, sized_lead, sized_both, sized_some, one_opt, one_after, number_found}
-use Rattle.detail_cut.specs.Form.{slash_date, coded_date, slash_coded_date, signed_days, from_discount, from_interest, from_mark, from_settlement, from_closing, from_time, from_traded, detail_form, Tried}
+use Rattle.detail_cut.specs.Form.{slash_date, coded_date, slash_coded_date, signed_days, from_discount, from_interest, from_mark, from_settlement, from_closing, from_time, from_traded, detail_form}
 use Rattle.detail_cut.specs.Runs.{run, opening, OpensBy, EndRun, LateRun, RunsToEnd, RunsLate}
 use Rattle.detail_cut.proofs.Openings.{run_digits, opens_code, opens_days, opens_slash_code, opens_slash_date}
-use Rattle.detail_cut.proofs.Taking.{one_optional, none_taken, left, taken}
+use Rattle.detail_cut.proofs.Taking.{Tried, one_optional, none_taken, left, taken}
 use Rattle.detail_cut.proofs.Follows.{opens_discount, opens_interest, opens_mark, opens_time, runs_settlement, runs_closing}
 
 -- contents of f have n bytes and one value, and their first bytes tell that they stand at place k
@@ -31,9 +31,10 @@ code_opens = record { sized = sized_exactly 2 Capital; first = opens_code }
 pub days_opens : Opens signed_days 4 2
 days_opens = record { sized = sized_both sign (number 3) 1 3 sized_sign (sized_number 3); first = λ y w h. opens_days y w }
 
--- such a piece is taken where it stands in front
-pub opened : (f : Notation) (n k : ℕ) → Opens f n (suc k) → (s : List ℕ) (y : Value f) (t : List ℕ) → Front f s (Some (y, t)) → Takes (opt f) (OpensBy k) s (Some y) t
-opened f n k z s y t q = taken f (OpensBy k) s n z.sized y t q (λ o. omega (arith, o, ap opening q.0, z.first y t q.1))
+-- such a piece is taken where it stands in front, and else left
+pub opened : (f : Notation) (n k : ℕ) → Opens f n (suc k) → (s : List ℕ) (x : Option (Value f)) (t : List ℕ) → Tried f s x t → Takes (opt f) (OpensBy k) s x t
+opened f n k z s None t q = subst (Takes (opt f) (OpensBy k) s None) (sym q.1) (left f (OpensBy k) s q.0)
+opened f n k z s (Some y) t q = taken f (OpensBy k) s n z.sized y t q (λ o. omega (arith, o, ap opening q.0, z.first y t q.1))
 
 one_opened : (f g : Notation) (n k : ℕ) → Opens f n (suc k) → ((x : Value g) → Proper g x → OpensBy k (print g x)) → Unambiguous g → Unambiguous (both (opt f) g)
 one_opened f g n k z follows u = one_optional f g n z.sized (OpensBy k) follows (λ y w h i j. omega (arith, j, z.first y w h)) u

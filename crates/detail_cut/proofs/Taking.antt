@@ -1,10 +1,13 @@
 -- Optional pieces: when one is taken and when it is left; and how they follow one another.
 use Rattle.std.proofs.Common.{◌≡◌, ℕ, ◌<◌, List, [], ◌++◌, length, Some, None, Option, sym, refl, ap, ◌∙◌, subst, arith}
 use Rattle.std.proofs.lemmas.List.{append-nil, nil_from_length}
-use Rattle.pieces.specs.Cuts.{Front, Takes}
+use Rattle.std.specs.Borrow.{Bor}
+use Rattle.std.specs.Option.{option_map}
+use Rattle.pieces.specs.Cuts.{Front, Takes, seen_rest, seen_both}
 use Rattle.pieces.specs.Notation.{Notation, Value, Proper, print, Finds, Unambiguous, opt, both}
 use Rattle.pieces.proofs.Slices.{same_front}
 use Rattle.pieces.proofs.Forms.{Sized}
+use Rattle.detail_cut.specs.Form.{seen, seen_coded, seen_coded_rest, Taken}
 
 module _ (f : Notation) (Next : List ℕ → Type 0) (s : List ℕ) where
   -- left, since with the piece the rest would not be one
@@ -28,15 +31,34 @@ module _ (f : Notation) (Next : List ℕ → Type 0) (s : List ℕ) where
           let r = same_front (print f x) w (print f y) t (sym e ∙ q.0) (z.size x h ∙ sym (z.size y q.1)) in
           (ap Some (z.one x y h q.1 r.0), r.1)
 
+-- f was tried at the front of s: it stands there and t is the rest, or it does not and t is all
+abbrev pub Tried : (f : Notation) → List ℕ → Option (Value f) → List ℕ → Type 0
+Tried f s None t = Front f s None × (t ≡ s)
+Tried f s (Some y) t = Front f s (Some (y, t))
+
+pub tried : (f : Notation) (s : List ℕ) (front : Option (Value f × List ℕ)) → Front f s front → (x : Option (Value f)) (t : List ℕ) → Taken s front x t → Tried f s x t
+tried f s front q None t e = (subst (Front f s) e.0 q, e.1)
+tried f s front q (Some x) t e = subst (Front f s) e q
+
+-- what was taken, in the bytes that are borrowed
+pub taken_coded : (s : List ℕ) (front : Option ((Bor (List ℕ) × ℕ) × Bor (List ℕ))) (x : Option (Bor (List ℕ) × ℕ)) (t : List ℕ) → Taken s (seen_rest front) x t → Taken s (seen_coded_rest front) (seen_coded x) t
+taken_coded s None None t e = (refl, e.1)
+taken_coded s None (Some x) t e = absurd (cc)
+taken_coded s (Some y) None t e = absurd (let z = e.0 in cc)
+taken_coded s (Some y) (Some x) t e = ap (option_map (λ z. ((z.0.0.now, z.0.1), z.1))) e
+
+pub taken_seen : (s : List ℕ) (front : Option (Bor (List ℕ) × Bor (List ℕ))) (x : Option (Bor (List ℕ))) (t : List ℕ) → Taken s (seen_rest front) x t → Taken s (seen_both front) (seen x) t
+taken_seen s None None t e = (refl, e.1)
+taken_seen s None (Some x) t e = absurd (cc)
+taken_seen s (Some y) None t e = absurd (let z = e.0 in cc)
+taken_seen s (Some y) (Some x) t e = ap (option_map (λ z. (z.0.now, z.1))) e
+
 -- a piece, and then all that is left
 module _ (f g : Notation) (Next : List ℕ → Type 0) (follows : (z : Value g) → Proper g z → Next (print g z)) (s : List ℕ) (x : Value f) (t : List ℕ) (k : Takes f Next s x t) where
   pub then_none : Finds g t None → Finds (both f g) s None
   then_none none v h =
       let o = k.only v.0 (print g v.1) h.1.0 h.0 (follows v.1 h.1.1) in
       none v.1 (sym o.1, h.1.1)
-
-  pub then_found : (y : Value g) → Finds g t (Some y) → Finds (both f g) s (Some (x, y))
-  then_found y h = (k.split ∙ ap (λ l. print f x ++ l) h.0, (k.proper, h.1))
 
 -- the last piece
 module _ (f : Notation) (s : List ℕ) (x : Value f) (t : List ℕ) (k : Takes f (λ w. w ≡ []) s x t) where

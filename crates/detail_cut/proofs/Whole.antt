@@ -1,12 +1,12 @@
 -- The eight pieces one after another.
-use Rattle.std.proofs.Common.{◌≡◌, ℕ, ◌<◌, Bool, List, length, Some, None, Option}
+use Rattle.std.proofs.Common.{ℕ, ◌<◌, Bool, List, length, Some, None, Option}
 use Rattle.notation.specs.declared.classes.Class.TheVariants.{Capital}
 use Rattle.pieces.specs.Cuts.{Front, Takes}
 use Rattle.pieces.specs.Notation.{Finds, number, exactly, opt}
-use Rattle.pieces.proofs.Forms.{sized_number, rest_second, rest_found}
+use Rattle.pieces.proofs.Forms.{sized_number, rest_second}
 use Rattle.detail_cut.specs.Form.{slash_date, slash_coded_date, signed_days, from_discount, from_interest, from_mark, from_settlement, from_closing, from_time, from_traded, detail_form}
 use Rattle.detail_cut.specs.Runs.{OpensBy, RunsToEnd, RunsLate, AtEnd}
-use Rattle.detail_cut.proofs.Taking.{then_none, then_found, last_none, last_found}
+use Rattle.detail_cut.proofs.Taking.{then_none, last_none}
 use Rattle.detail_cut.proofs.Follows.{opens_discount, opens_interest, opens_mark, opens_time, runs_settlement, runs_closing}
 
 module _ (s t0 t1 t2 t3 t4 t5 t6 t7 : List ℕ) (p : ℕ) (d t c : Option ℕ) (a : Option (List ℕ × ℕ)) (m : Option (List ℕ)) (i : Option (Bool × ℕ)) (x : Option ℕ)
@@ -24,14 +24,3 @@ module _ (s t0 t1 t2 t3 t4 t5 t6 t7 : List ℕ) (p : ℕ) (d t c : Option ℕ) (
       (then_none (opt (exactly 2 Capital)) from_interest (OpensBy 2) opens_interest t4 m t5 f5
       (then_none (opt signed_days) from_discount (OpensBy 1) opens_discount t5 i t6 f6
       (last_none (opt (number 3)) t6 x t7 f7 more)))))))
-
-  pub detail_found : length t7 ≡ 0 → Finds detail_form s (Some (p, (d, (t, (c, (a, (m, (i, x))))))))
-  detail_found none =
-      rest_found (number 3) from_traded s p t0 _ f0
-      (then_found (opt slash_date) from_time (OpensBy 4) opens_time t0 d t1 f1 _
-      (then_found (opt (number 4)) from_closing RunsLate runs_closing t1 t t2 f2 _
-      (then_found (opt (number 6)) from_settlement RunsToEnd runs_settlement t2 c t3 f3 _
-      (then_found (opt slash_coded_date) from_mark (OpensBy 3) opens_mark t3 a t4 f4 _
-      (then_found (opt (exactly 2 Capital)) from_interest (OpensBy 2) opens_interest t4 m t5 f5 _
-      (then_found (opt signed_days) from_discount (OpensBy 1) opens_discount t5 i t6 f6 _
-      (last_found (opt (number 3)) t6 x t7 f7 none)))))))

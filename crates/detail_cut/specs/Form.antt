@@ -2,7 +2,6 @@
 use Rattle.std.specs.Prelude.{◌≡◌, ℕ, List, Some, None, codes, Option}
 use Rattle.std.specs.Borrow.{Bor}
 use Rattle.notation.specs.declared.classes.Class.TheVariants.{Capital}
-use Rattle.pieces.specs.Cuts.{Front}
 use Rattle.pieces.specs.Notation.{Notation, Value, number, exactly, sign, lead, opt, both}
 use Rattle.pieces.specs.Shown.{shown}
 use Rattle.detail_cut.specs.declared.cut.DetailPieces.{DetailPieces}
@@ -52,10 +51,10 @@ detail_form = both (number 3) from_traded
 abbrev pub AsInTheTable : Type 0
 AsInTheTable = shown detail_form ≡ codes "3n[/6n][4n][6n][/2a6n][2a][1x3n][3n]"
 
--- f was tried at the front of s: it stands there and t is the rest, or it does not and t is all
-abbrev pub Tried : (f : Notation) → List ℕ → Option (Value f) → List ℕ → Type 0
-Tried f s None t = Front f s None × (t ≡ s)
-Tried f s (Some y) t = Front f s (Some (y, t))
+-- what stands in front of s is taken, and t is the rest; or nothing stands there, and t is all
+abbrev pub Taken : {V : Type 0} → List ℕ → Option (V × List ℕ) → Option V → List ℕ → Type 0
+Taken s front None t = (front ≡ None) × (t ≡ s)
+Taken s front (Some x) t = front ≡ Some (x, t)
 
 -- what borrowed pieces hold
 abbrev pub seen : Option (Bor (List ℕ)) → Option (List ℕ)

@@ -7,9 +7,12 @@ use Rattle.pieces.specs.Notation.{Notation, number, exactly, up_to, dec, flag, l
 abbrev pub minus : Notation
 minus = flag (codes "/N")
 
--- [/2a]
+-- /2a, and [/2a]
+abbrev pub slash_code : Notation
+slash_code = lead (codes "/") (exactly 2 Capital)
+
 abbrev pub code : Notation
-code = opt (lead (codes "/") (exactly 2 Capital))
+code = opt slash_code
 
 -- 23: side, and whether on exchange
 abbrev pub nature_form : Notation

@@ -3,16 +3,16 @@ ghost use Rattle.fields.specs.Codes.{Sees};
 ghost use Rattle.fields.specs.Table.{parties_form};
 ghost use Rattle.fields.specs.Terms.{row35b, row82d, row72, seen_ok};
 ghost use Rattle.pieces.specs.Notation.{Finds};
-ghost use Rattle.pieces.specs.Rows.{Reads, Checks, text_of};
-ghost use Rattle.pieces.specs.Scratches.{Grown};
+ghost use Rattle.pieces.specs.Rows.{Reads, Checks};
 
 use notation::classes::Class;
 use notation::refusals::Why;
+use pieces::contents::Contents;
 use pieces::cuts::{after, all_of, front_number, read_number};
 use pieces::scratch::Scratch;
 
 // Field 35B: an international securities identification number.
-#[derive(Clone, Copy)]
+#[derive(Clone, Copy, PartialEq, Eq, Debug)]
 pub struct Isin {
     pub bytes: [u8; 12],
 }
@@ -27,40 +27,25 @@ pub struct Parties {
 fn cut_isin(s: &[u8]) -> Option<Isin>
     ensures { Sees row35b s.now result }
 {
-    let rest = s.strip_prefix(b"ISIN ")?;
-    if rest.len() != 12 || !all_of(rest, Class::Either) {
-        return None;
-    }
-    let mut bytes = [0; 12];
-    bytes.copy_from_slice(rest);
-    Some(Isin { bytes })
+    let bytes: [u8; 12] = s.strip_prefix(b"ISIN ")?.try_into().ok()?;
+    all_of(&bytes, Class::Either).then_some(Isin { bytes })
 }
 
-// Reads the contents of field 35B.
-pub fn read_isin(s: &[u8]) -> Result<Isin, Why>
-    ensures as_the_row_has_it { Reads row35b s.now result }
-{
-    match cut_isin(s) {
-        Some(isin) => Ok(isin),
-        None => Err(Why::Notation),
-    }
-}
+impl Contents for Isin {
+    ghost format = { row35b };
 
-impl Isin {
-    // What is wrong with it, were it written.
-    pub fn check(&self) -> Result<(), Why>
-        ensures as_its_contents_would { Checks row35b self.now result }
-    {
+    fn read(s: &[u8]) -> Result<Isin, Why> {
+        cut_isin(s).ok_or(Why::Notation)
+    }
+
+    fn check(&self) -> Result<(), Why> {
         if !all_of(&self.bytes, Class::Either) {
             return Err(Why::Notation);
         }
         Ok(())
     }
 
-    // Writes the contents of field 35B.
-    pub fn write(&self, out: &mut Scratch)
-        ensures as_the_row_has_it { Grown out.old out.new (text_of row35b self.now) }
-    {
+    fn write(&self, out: &mut Scratch) {
         out.append(b"ISIN ");
         out.append(&self.bytes);
     }
@@ -74,47 +59,36 @@ fn cut_parties(s: &[u8]) -> Option<(u32, u32)>
     Some((entering, counterparty))
 }
 
-// Reads the contents of field 82D.
-pub fn read_parties(s: &[u8]) -> Result<Parties, Why>
-    ensures as_the_row_has_it { Reads row82d s.now result }
-{
-    match cut_parties(s) {
-        Some((entering, counterparty)) => Ok(Parties {
+impl Contents for Parties {
+    ghost format = { row82d };
+
+    fn read(s: &[u8]) -> Result<Parties, Why> {
+        let (entering, counterparty) = cut_parties(s).ok_or(Why::Notation)?;
+        Ok(Parties {
             entering: entering as u16,
             counterparty: counterparty as u16,
-        }),
-        None => Err(Why::Notation),
+        })
     }
-}
 
-impl Parties {
-    // What is wrong with them, were they written.
-    pub fn check(&self) -> Result<(), Why>
-        ensures as_its_contents_would { Checks row82d self.now result }
-    {
+    fn check(&self) -> Result<(), Why> {
         if self.entering > 9_999 || self.counterparty > 9_999 {
             return Err(Why::Notation);
         }
         Ok(())
     }
 
-    // Writes the contents of field 82D.
-    pub fn write(&self, out: &mut Scratch)
-        ensures as_the_row_has_it { Grown out.old out.new (text_of row82d self.now) }
-    {
+    fn write(&self, out: &mut Scratch) {
         out.digits(4, self.entering as u32);
         out.push(b'/');
         out.digits(4, self.counterparty as u32);
     }
 }
 
-// Reads the contents of field 72: 1 to 30 free characters.
+// Reads the contents of field 72, 1 to 30 free characters. They are borrowed and have no value of their own to implement Contents for.
 pub fn read_note(s: &[u8]) -> Result<&[u8], Why>
     ensures as_the_row_has_it { Reads row72 s.now (seen_ok result) }
 {
-    if s.len() == 0 || s.len() > 30 || !all_of(s, Class::Free) {
-        return Err(Why::Notation);
-    }
+    check_note(s)?;
     Ok(s)
 }
 
@@ -122,7 +96,7 @@ pub fn read_note(s: &[u8]) -> Result<&[u8], Why>
 pub fn check_note(note: &[u8]) -> Result<(), Why>
     ensures as_its_contents_would { Checks row72 note.now result }
 {
-    if note.len() == 0 || note.len() > 30 || !all_of(note, Class::Free) {
+    if note.is_empty() || note.len() > 30 || !all_of(note, Class::Free) {
         return Err(Why::Notation);
     }
     Ok(())

@@ -1,18 +1,17 @@
 // The terms of a trade: its nature (field 23), quantity (35A), price (33T) and exchange rate (36).
-ghost use Rattle.std.specs.Prelude.{◌≡◌, Bool, MatchOption, ◌≢◌};
-ghost use Rattle.fields.specs.Codes.{Sees};
+ghost use Rattle.std.specs.Prelude.{◌≡◌};
+ghost use Rattle.fields.specs.Codes.{Sees, SideOf, MarkOf};
 ghost use Rattle.fields.specs.Table.{nature_form};
-ghost use Rattle.fields.specs.Terms.{side_number, mark, row23, row35a, row33t, row36};
+ghost use Rattle.fields.specs.Terms.{side_number, row23, row35a, row33t, row36};
 ghost use Rattle.pieces.specs.Notation.{Finds};
-ghost use Rattle.pieces.specs.Rows.{Reads, Checks, text_of};
-ghost use Rattle.pieces.specs.Scratches.{Grown};
 
-use crate::codes::{coded_decimal, optional_code};
-use notation::classes::Class;
+use crate::codes::{check_coded, optional_code, read_coded, write_coded};
 use notation::refusals::Why;
-use pieces::cuts::{all_of, front_number};
+use pieces::contents::Contents;
+use pieces::cuts::front_number;
 use pieces::decimals::{Scale, read_decimal};
 use pieces::scratch::Scratch;
+use std::marker::Model;
 
 // What the counterparty does.
 #[derive(Clone, Copy, PartialEq, Eq, Debug)]
@@ -32,7 +31,7 @@ pub struct Nature {
 }
 
 // Field 35A.
-#[derive(Clone, Copy)]
+#[derive(Clone, Copy, PartialEq, Eq, Debug)]
 pub struct Quantity {
     // three capital letters, as SHS for shares
     pub kind: [u8; 3],
@@ -41,12 +40,46 @@ pub struct Quantity {
 }
 
 // Field 33T.
-#[derive(Clone, Copy)]
+#[derive(Clone, Copy, PartialEq, Eq, Debug)]
 pub struct Price {
     // three capital letters
     pub currency: [u8; 3],
     // in ten-thousandths
     pub amount: u64,
+}
+
+// Field 36: an exchange rate.
+#[derive(Clone, Copy, PartialEq, Eq, Debug)]
+pub struct Rate {
+    // in hundred-thousandths
+    units: u64,
+}
+
+// It is seen as the number that it is.
+impl Model for Rate {
+    ghost use Rattle.std.specs.Prelude.{ℕ};
+
+    ghost Value = { ℕ };
+
+    ghost view = { λ r. r.units };
+
+    ghost inverse = { λ n. record { units = n } };
+}
+
+impl From<u64> for Rate {
+    ghost from_gives = { λ n r. r ≡ n };
+
+    fn from(units: u64) -> Rate {
+        Rate { units }
+    }
+}
+
+impl From<Rate> for u64 {
+    ghost from_gives = { λ r n. n ≡ r };
+
+    fn from(rate: Rate) -> u64 {
+        rate.units
+    }
 }
 
 fn cut_nature(s: &[u8]) -> Option<(u32, Option<[u8; 2]>)>
@@ -56,164 +89,122 @@ fn cut_nature(s: &[u8]) -> Option<(u32, Option<[u8; 2]>)>
     Some((side, optional_code(rest)?))
 }
 
-fn side_of(n: u32) -> Option<Side>
-    ensures { MatchOption result ((k : Side) → n ≢ side_number k) (λ k. n ≡ side_number k) }
-{
-    match n {
-        12 => Some(Side::CounterpartyBuys),
-        22 => Some(Side::CounterpartySells),
-        _ => None,
+impl TryFrom<u32> for Side {
+    type Error = Why;
+
+    ghost try_from_gives = { SideOf };
+
+    fn try_from(number: u32) -> Result<Side, Why> {
+        match number {
+            12 => Ok(Side::CounterpartyBuys),
+            22 => Ok(Side::CounterpartySells),
+            _ => Err(Why::Code),
+        }
     }
 }
 
-fn number_of(side: Side) -> u32
-    ensures { result ≡ side_number side }
-{
-    match side {
-        Side::CounterpartyBuys => 12,
-        Side::CounterpartySells => 22,
+impl From<Side> for u32 {
+    ghost from_gives = { λ side n. n ≡ side_number side };
+
+    fn from(side: Side) -> u32 {
+        match side {
+            Side::CounterpartyBuys => 12,
+            Side::CounterpartySells => 22,
+        }
     }
 }
 
-fn mark_of(code: Option<[u8; 2]>) -> Option<bool>
-    ensures { MatchOption result ((b : Bool) → code ≡ mark b → ⊥) (λ b. code ≡ mark b) }
+// Whether a code says that the trade was made on exchange. Field 31P has the like over borrowed bytes and another code; a function of
+// both would name neither.
+fn marked(code: Option<[u8; 2]>) -> Result<bool, Why>
+    ensures { MarkOf code result }
 {
     match code {
-        None => Some(false),
-        Some(c) => if c[0] == b'B' && c[1] == b'S' {
-            Some(true)
-        } else {
-            None
-        },
+        None => Ok(false),
+        Some(letters) if letters == *b"BS" => Ok(true),
+        Some(_) => Err(Why::Code),
     }
 }
 
-// Reads the contents of field 23.
-pub fn read_nature(s: &[u8]) -> Result<Nature, Why>
-    ensures as_the_row_has_it { Reads row23 s.now result }
-{
-    let Some((number, code)) = cut_nature(s) else {
-        return Err(Why::Notation);
-    };
-    let Some(side) = side_of(number) else {
-        return Err(Why::Code);
-    };
-    let Some(on_exchange) = mark_of(code) else {
-        return Err(Why::Code);
-    };
-    Ok(Nature { side, on_exchange })
-}
+impl Contents for Nature {
+    ghost format = { row23 };
 
-impl Nature {
-    // Writes the contents of field 23.
-    pub fn write(&self, out: &mut Scratch)
-        ensures as_the_row_has_it { Grown out.old out.new (text_of row23 self.now) }
-    {
-        out.digits(3, number_of(self.side));
+    fn read(s: &[u8]) -> Result<Nature, Why> {
+        let (number, code) = cut_nature(s).ok_or(Why::Notation)?;
+        let side = Side::try_from(number)?;
+        let on_exchange = marked(code)?;
+        Ok(Nature { side, on_exchange })
+    }
+
+    fn check(&self) -> Result<(), Why> {
+        Ok(()) // every nature can be written
+    }
+
+    fn write(&self, out: &mut Scratch) {
+        out.digits(3, u32::from(self.side));
         if self.on_exchange {
             out.append(b"/BS");
         }
     }
 }
 
-fn cut_quantity(s: &[u8]) -> Option<Quantity>
-    ensures { Sees row35a s.now result }
-{
-    let (kind, nominal) = coded_decimal(s, 9, Scale::Thousandths)?;
-    Some(Quantity { kind, nominal })
-}
+// What Quantity and Price share stands in codes; their fields have names of their own, and different widths and scales.
+impl Contents for Quantity {
+    ghost format = { row35a };
 
-// Reads the contents of field 35A.
-pub fn read_quantity(s: &[u8]) -> Result<Quantity, Why>
-    ensures as_the_row_has_it { Reads row35a s.now result }
-{
-    match cut_quantity(s) {
-        Some(quantity) => Ok(quantity),
-        None => Err(Why::Notation),
+    fn read(s: &[u8]) -> Result<Quantity, Why> {
+        let (kind, nominal) = read_coded(s, 9, Scale::Thousandths)?;
+        Ok(Quantity { kind, nominal })
+    }
+
+    fn check(&self) -> Result<(), Why> {
+        check_coded(&self.kind, self.nominal, 9, Scale::Thousandths)
+    }
+
+    fn write(&self, out: &mut Scratch) {
+        write_coded(out, &self.kind, self.nominal, Scale::Thousandths);
     }
 }
 
-impl Quantity {
-    // What is wrong with it, were it written.
-    pub fn check(&self) -> Result<(), Why>
-        ensures as_its_contents_would { Checks row35a self.now result }
-    {
-        if !all_of(&self.kind, Class::Capital) || self.nominal >= 1_000_000_000_000 {
+impl Contents for Price {
+    ghost format = { row33t };
+
+    fn read(s: &[u8]) -> Result<Price, Why> {
+        let (currency, amount) = read_coded(s, 6, Scale::TenThousandths)?;
+        Ok(Price { currency, amount })
+    }
+
+    fn check(&self) -> Result<(), Why> {
+        check_coded(&self.currency, self.amount, 6, Scale::TenThousandths)
+    }
+
+    fn write(&self, out: &mut Scratch) {
+        write_coded(out, &self.currency, self.amount, Scale::TenThousandths);
+    }
+}
+
+fn cut_rate(s: &[u8]) -> Option<Rate>
+    ensures { Sees row36 s.now result }
+{
+    read_decimal(s, 5, Scale::HundredThousandths).map(|d| Rate { units: d.units })
+}
+
+impl Contents for Rate {
+    ghost format = { row36 };
+
+    fn read(s: &[u8]) -> Result<Rate, Why> {
+        cut_rate(s).ok_or(Why::Notation)
+    }
+
+    fn check(&self) -> Result<(), Why> {
+        let limit: u64 = 10_000_000_000;
+        if self.units >= limit {
             return Err(Why::Notation);
         }
         Ok(())
     }
 
-    // Writes the contents of field 35A.
-    pub fn write(&self, out: &mut Scratch)
-        ensures as_the_row_has_it { Grown out.old out.new (text_of row35a self.now) }
-    {
-        out.append(&self.kind);
-        out.decimal(self.nominal, Scale::Thousandths);
+    fn write(&self, out: &mut Scratch) {
+        out.decimal(self.units, Scale::HundredThousandths);
     }
-}
-
-fn cut_price(s: &[u8]) -> Option<Price>
-    ensures { Sees row33t s.now result }
-{
-    let (currency, amount) = coded_decimal(s, 6, Scale::TenThousandths)?;
-    Some(Price { currency, amount })
-}
-
-// Reads the contents of field 33T.
-pub fn read_price(s: &[u8]) -> Result<Price, Why>
-    ensures as_the_row_has_it { Reads row33t s.now result }
-{
-    match cut_price(s) {
-        Some(price) => Ok(price),
-        None => Err(Why::Notation),
-    }
-}
-
-impl Price {
-    // What is wrong with it, were it written.
-    pub fn check(&self) -> Result<(), Why>
-        ensures as_its_contents_would { Checks row33t self.now result }
-    {
-        if !all_of(&self.currency, Class::Capital) || self.amount >= 10_000_000_000 {
-            return Err(Why::Notation);
-        }
-        Ok(())
-    }
-
-    // Writes the contents of field 33T.
-    pub fn write(&self, out: &mut Scratch)
-        ensures as_the_row_has_it { Grown out.old out.new (text_of row33t self.now) }
-    {
-        out.append(&self.currency);
-        out.decimal(self.amount, Scale::TenThousandths);
-    }
-}
-
-// Reads the contents of field 36.
-pub fn read_rate(s: &[u8]) -> Result<u64, Why>
-    ensures as_the_row_has_it { Reads row36 s.now result }
-{
-    match read_decimal(s, 5, Scale::HundredThousandths) {
-        Some(d) => Ok(d.units),
-        None => Err(Why::Notation),
-    }
-}
-
-// What is wrong with a rate, were it written.
-pub fn check_rate(rate: u64) -> Result<(), Why>
-    ensures as_its_contents_would { Checks row36 rate result }
-{
-    let limit: u64 = 10_000_000_000;
-    if rate >= limit {
-        return Err(Why::Notation);
-    }
-    Ok(())
-}
-
-// Writes the contents of field 36.
-pub fn write_rate(rate: u64, out: &mut Scratch)
-    ensures as_the_row_has_it { Grown out.old out.new (text_of row36 rate) }
-{
-    out.decimal(rate, Scale::HundredThousandths);
 }

@@ -1,6 +1,13 @@
 -- The search for the first wrong byte, step by step.
-use Rattle.std.proofs.Common.{◌≡◌, ℕ, suc, ◌+◌, ◌-◌, ◌<◌, ◌≤◌, Bool, true, false, cond, not, ◌&&◌, ltb, List, [], ◌∷◌, ◌++◌, length, get_or, replicate, is_some, Some, None, Option, sym, refl, ap, ◌∙◌, append_assoc, arith, length-append}
+use Rattle.std.proofs.Common.{◌≡◌, ℕ, zero, suc, le_refl, subst, add-one, ◌+◌, ◌-◌, ◌<◌, ◌≤◌, Bool, true, false, cond, not, ◌&&◌, ltb, List, [], ◌∷◌, ◌++◌, length, get_or, replicate, is_some, Some, None, Option, sym, refl, ap, ◌∙◌, append_assoc, arith, length-append}
 use lib.Seq.{get_or_at}
+use Rattle.std.specs.Prelude.{zip, position}
+use Rattle.std.proofs.lemmas.Grind.{common_steps}
+use Rattle.std.proofs.lemmas.List.Quantifiers.{position-Some}
+use Rattle.std.proofs.lemmas.List.Sums.{fails_before_first}
+use Rattle.std.specs.List.{list_all, position_or_len}
+use Rattle.notation.specs.Classes.{is_of}
+use Rattle.notation.specs.declared.classes.Class.{Class}
 use Rattle.frame.specs.Forms.{Spot, meets, wrong_from, first_wrong}
 use Rattle.std.proofs.lemmas.Bool.Decides.{nat_tests}
 
@@ -99,3 +106,68 @@ follows_more at p ps s b r l h e =
     let t : ltb at (length s) ≡ true = grind (arith, nat_tests) in
     sym (not_some (ltb at (length s) && meets p (get_or s at 0)) (wrong_from (at + 1) ps s) at
     ∙ ap (λ (x : Bool). x && meets p (get_or s at 0) && not (is_some (wrong_from (at + 1) ps s))) t ∙ (λ i. sym h i && sym e i))
+
+-- the same rule at every byte, as a test of each
+pub follows_all : (p : Spot) (u s : List ℕ) → list_all (meets p) s ≡ not (is_some (wrong_from (length u) (replicate (length s) p) (u ++ s)))
+unfolding wrong_from
+follows_all p u [] = refl
+follows_all p u (x ∷ s) =
+    let here : get_or (u ++ (x ∷ s)) (length u) 0 ≡ x = get_or_at u x s 0 (length u) refl in
+    let long : length (u ++ (x ∷ s)) ≡ length u + suc (length s) = length-append u (x ∷ s) in
+    let moved : (u ++ x ∷ []) ++ s ≡ u ++ (x ∷ s) = append_assoc u (x ∷ []) s in
+    let longer : length (u ++ x ∷ []) ≡ length u + 1 = length-append u (x ∷ []) in
+    let rest : list_all (meets p) s ≡ not (is_some (wrong_from (length u + 1) (replicate (length s) p) (u ++ (x ∷ s)))) =
+    follows_all p (u ++ x ∷ []) s ∙ (λ i. not (is_some (wrong_from (longer i) (replicate (length s) p) (moved i)))) in
+    follows_more (length u) p (replicate (length s) p) (u ++ (x ∷ s)) (meets p x) _ (omega arith) (ap (meets p) (sym here)) rest
+
+-- a form as a list of classes, byte for byte
+abbrev pub Alike : List Class → List Spot → Type 0
+Alike [] [] = Unit {0}
+Alike [] (p ∷ ps) = ⊥
+Alike (c ∷ cs) [] = ⊥
+Alike (c ∷ cs) (p ∷ ps) = ((b : ℕ) → is_of c b ≡ meets p b) × Alike cs ps
+
+pub follows_classes : (cs : List Class) (ps : List Spot) (u s : List ℕ) → Alike cs ps → length s ≡ length cs →
+    list_all (λ (x : ℕ × Class). is_of x.1 x.0) (zip s cs) ≡ not (is_some (wrong_from (length u) ps (u ++ s)))
+unfolding wrong_from
+follows_classes [] [] u [] a l = refl
+follows_classes [] [] u (x ∷ s) a l = absurd (omega arith)
+follows_classes [] (p ∷ ps) u s a l = absurd a
+follows_classes (c ∷ cs) [] u s a l = absurd a
+follows_classes (c ∷ cs) (p ∷ ps) u [] a l = absurd (omega arith)
+follows_classes (c ∷ cs) (p ∷ ps) u (x ∷ s) a l =
+    let here : get_or (u ++ (x ∷ s)) (length u) 0 ≡ x = get_or_at u x s 0 (length u) refl in
+    let long : length (u ++ (x ∷ s)) ≡ length u + suc (length s) = length-append u (x ∷ s) in
+    let moved : (u ++ x ∷ []) ++ s ≡ u ++ (x ∷ s) = append_assoc u (x ∷ []) s in
+    let longer : length (u ++ x ∷ []) ≡ length u + 1 = length-append u (x ∷ []) in
+    let short : length s ≡ length cs = omega arith in
+    let rest : list_all (λ (x : ℕ × Class). is_of x.1 x.0) (zip s cs) ≡ not (is_some (wrong_from (length u + 1) ps (u ++ (x ∷ s)))) =
+    follows_classes cs ps (u ++ x ∷ []) s a.1 short ∙ (λ i. not (is_some (wrong_from (longer i) ps (moved i)))) in
+    follows_more (length u) p ps (u ++ (x ∷ s)) (is_of c x) _ (omega arith) (a.0 x ∙ ap (meets p) (sym here)) rest
+
+-- the first byte that breaks a rule, the same at every byte
+since_upto : (s : List ℕ) (p : Spot) (i : ℕ) → i ≤ length s → ((k : ℕ) → k < i → meets p (get_or s k 0) ≡ true) → Since s p i
+since_upto s p zero h f = all_start s p
+since_upto s p (suc i) h f =
+    subst (Since s p) (add-one i) (all_go_on s p i (omega arith) (f i (omega arith)) (since_upto s p i (omega arith) (λ k l. f k (omega arith))))
+
+not_false : (b : Bool) → not b ≡ false → b ≡ true
+not_false true h = refl
+not_false false h = sym h
+
+not_true : (b : Bool) → not b ≡ true → b ≡ false
+not_true false h = refl
+not_true true h = sym h
+
+first_by : (p : Spot) (s : List ℕ) (o : Option ℕ) → position (λ b. not (meets p b)) s ≡ o → o ≡ first_wrong (replicate (length s) p) s
+first_by p s None e =
+    let q : ℕ → Bool = λ b. not (meets p b) in
+    let far : length s ≤ position_or_len q s = grind (arith, common_steps) in
+    all_end s p (length s) (le_refl _)
+    (since_upto s p (length s) (le_refl _) (λ k l. not_false _ (fails_before_first q s k 0 (omega arith))))
+first_by p s (Some i) e =
+    let x = position-Some (λ b. not (meets p b)) s i 0 e in
+    all_stop s p i x.0 (not_true _ x.1) (since_upto s p i (omega arith) (λ k l. not_false _ (x.2 k l)))
+
+pub position_first : (p : Spot) (s : List ℕ) → position (λ b. not (meets p b)) s ≡ first_wrong (replicate (length s) p) s
+position_first p s = first_by p s (position (λ b. not (meets p b)) s) refl

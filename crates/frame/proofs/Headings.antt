@@ -68,3 +68,34 @@ all_read f m t n l k u hm ht hn hk hl =
     let same : record { member = m; code = t; number = n; mark = k; length = l } ≡ header_of f =
     λ i. record { member = em i; code = et i; number = en i; mark = ek i; length = el.1 i } in
     ap Ok same ∙ sym (ap (λ o. unless o (header_of f)) (u.search_there ∙ el.0)) ∙ sym (sized f u.low u.high)
+
+-- where a field is wrong, and those before it were read
+pub wrong_member : (f : List ℕ) (e : FrameFault) → Err e ≡ read_number f 0 4 → 23 ≤ length f → length f ≤ 1023 → Err e ≡ read_header f
+wrong_member f e h low high = wrong_next f 0 (closed 4) behind_member _ e (at_member f low high) h
+
+pub wrong_type : (f : List ℕ) (m : ℕ) (e : FrameFault) → Err e ≡ read_number f 5 3 → Ok m ≡ read_number f 0 4 → 23 ≤ length f → length f ≤ 1023 → Err e ≡ read_header f
+wrong_type f m e h hm low high = wrong_next f 5 (closed 3) behind_type _ e (at_type f m (at_member f low high) hm) h
+
+before_number : (f : List ℕ) (m t : ℕ) → Ok t ≡ read_number f 5 3 → Ok m ≡ read_number f 0 4 → 23 ≤ length f → length f ≤ 1023 → Upto f 9 behind_type
+before_number f m t ht hm low high = at_number f t (at_type f m (at_member f low high) hm) ht
+
+pub wrong_number : (f : List ℕ) (m t : ℕ) (e : FrameFault) → Err e ≡ read_number f 9 6 → Ok t ≡ read_number f 5 3 → Ok m ≡ read_number f 0 4 →
+    23 ≤ length f → length f ≤ 1023 → Err e ≡ read_header f
+wrong_number f m t e h ht hm low high = wrong_next f 9 (closed 6) behind_number _ e (before_number f m t ht hm low high) h
+
+pub wrong_mark : (f : List ℕ) (m t n : ℕ) (e : FrameFault) → Err e ≡ read_mark f → Ok n ≡ read_number f 9 6 → Ok t ≡ read_number f 5 3 → Ok m ≡ read_number f 0 4 →
+    23 ≤ length f → length f ≤ 1023 → Err e ≡ read_header f
+wrong_mark f m t n e h hn ht hm low high = wrong_next f 16 marked (closed 4) _ e (at_mark f n (before_number f m t ht hm low high) hn) h
+
+before_length : (f : List ℕ) (m t n : ℕ) (k : Mark) → Ok k ≡ read_mark f → Ok n ≡ read_number f 9 6 → Ok t ≡ read_number f 5 3 → Ok m ≡ read_number f 0 4 →
+    23 ≤ length f → length f ≤ 1023 → Upto f 18 (closed 4)
+before_length f m t n k hk hn ht hm low high = at_length f k (at_mark f n (before_number f m t ht hm low high) hn) hk
+
+pub wrong_length : (f : List ℕ) (m t n : ℕ) (k : Mark) (e : FrameFault) → Err e ≡ read_number f 18 4 → Ok k ≡ read_mark f → Ok n ≡ read_number f 9 6 →
+    Ok t ≡ read_number f 5 3 → Ok m ≡ read_number f 0 4 → 23 ≤ length f → length f ≤ 1023 → Err e ≡ read_header f
+wrong_length f m t n k e h hk hn ht hm low high = wrong_last f e (before_length f m t n k hk hn ht hm low high) h
+
+pub right_header : (f : List ℕ) (m t n l : ℕ) (k : Mark) → Ok l ≡ read_number f 18 4 → Ok k ≡ read_mark f → Ok n ≡ read_number f 9 6 →
+    Ok t ≡ read_number f 5 3 → Ok m ≡ read_number f 0 4 → 23 ≤ length f → length f ≤ 1023 →
+    Ok (record { member = m; code = t; number = n; mark = k; length = l }) ≡ read_header f
+right_header f m t n l k hl hk hn ht hm low high = all_read f m t n l k (before_length f m t n k hk hn ht hm low high) hm ht hn hk hl

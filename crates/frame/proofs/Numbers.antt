@@ -1,10 +1,10 @@
 -- Reading digits, and one field of them: how far the search has come, and the value so far.
-use Rattle.std.proofs.Common.{◌≡◌, ℕ, ◌+◌, ◌-◌, ◌*◌, ◌^◌, ◌<◌, ◌≤◌, true, false, List, [], ◌∷◌, ◌++◌, length, get_or, take, drop, Some, None, Ok, Err, Option, sym, refl, ap, ◌∙◌, pow-suc, add-one, arith, length-drop, get_or-drop}
+use Rattle.std.proofs.Common.{◌≡◌, ℕ, ◌+◌, ◌-◌, ◌*◌, ◌^◌, ◌<◌, ◌≤◌, Bool, true, false, cond, ◌&&◌, ltb, List, [], ◌∷◌, ◌++◌, length, get_or, take, drop, Some, None, Ok, Err, Option, Result, sym, refl, ap, ◌∙◌, pow-suc, add-one, arith, length-drop, get_or-drop}
 use lib.ListN.{length-replicate}
-use Rattle.frame.proofs.Forms.{wrong_here, wrong_past, wrong_first, wrong_rest, replicate_more}
+use Rattle.frame.proofs.Forms.{wrong_past, wrong_first, wrong_rest, replicate_more}
 use Rattle.frame.specs.Forms.{Spot, wrong_from, run, closed}
 use Rattle.frame.specs.Forms.Spot.{digit, just}
-use Rattle.frame.specs.Headers.{read_digits, read_number, unless}
+use Rattle.frame.specs.Headers.{read_digit, read_digits, read_number, unless}
 use Rattle.frame.specs.declared.faults.FrameFault.{FrameFault}
 use Rattle.frame.specs.declared.faults.FrameFault.TheVariants.{Malformed}
 use Rattle.notation.proofs.Digits.{value_more}
@@ -13,47 +13,82 @@ use Rattle.notation.specs.Digits.{value_after, value}
 use Rattle.std.proofs.lemmas.Bool.Decides.{nat_tests}
 
 -- i digits from `at` on are read and have the value v
-abbrev pub Going : List ℕ → ℕ → ℕ → ℕ → ℕ → Type 0
-Going f at w i v = (wrong_from at (run w) f ≡ wrong_from (at + i) (run (w - i)) f) × (v ≡ value (take i (drop at f))) × (v < 10 ^ i)
+pub record Going (f : List ℕ) (at w i v : ℕ) : Type 0 where
+  pub search_there : wrong_from at (run w) f ≡ wrong_from (at + i) (run (w - i)) f
+  pub so_far : v ≡ value (take i (drop at f))
+  pub below : v < 10 ^ i
+  pub within : 0 < i → at + i ≤ length f
 
 pub starts : (f : List ℕ) (at w : ℕ) → Going f at w 0 0
 unfolding value_after
 starts f at w =
     let e : at ≡ at + 0 = omega arith in
     let d : w ≡ w - 0 = omega arith in
-    (ap (λ (n : ℕ). wrong_from n (run w) f) e ∙ ap (λ (n : ℕ). wrong_from (at + 0) (run n) f) d, refl, omega arith)
+    record {
+      search_there = ap (λ (n : ℕ). wrong_from n (run w) f) e ∙ ap (λ (n : ℕ). wrong_from (at + 0) (run n) f) d;
+      so_far = refl;
+      below = omega arith;
+      within = λ h. omega arith;
+    }
 
-small : (b : ℕ) → true ≡ is_digit b → b - 48 < 10
+small : (b : ℕ) → is_digit b ≡ true → b - 48 < 10
 small b h = grind (arith, nat_tests)
+
+-- a digit that is read stands there; one that is not read is the first wrong byte
+digit_by : (b : Bool) (x d : ℕ) (e : FrameFault) → Ok d ≡ cond b (Ok x) (Err e) → (b ≡ true) × (d ≡ x)
+digit_by true x d e h = (refl, cc)
+digit_by false x d e h = let z : ◌≡◌ {A = ℕ} 0 1 = cc in absurd (omega arith)
+
+fault_by : (b : Bool) (x : ℕ) (d e : FrameFault) → ◌≡◌ {A = Result ℕ FrameFault} (Err d) (cond b (Ok x) (Err e)) → (b ≡ false) × (d ≡ e)
+fault_by false x d e h = (refl, cc)
+fault_by true x d e h = let z : ◌≡◌ {A = ℕ} 0 1 = cc in absurd (omega arith)
+
+both : (a b : Bool) → a && b ≡ true → (a ≡ true) × (b ≡ true)
+both true true h = (refl, refl)
+both true false h = cc
+both false b h = cc
 
 -- the search at the next digit
 next_digit : (f : List ℕ) (at w i : ℕ) → i < w → wrong_from (at + i) (run (w - i)) f ≡ wrong_from (at + i) (digit ∷ run (w - (i + 1))) f
 next_digit f at w i h = ap (λ (form : List Spot). wrong_from (at + i) form f) (replicate_more w i digit h)
 
-pub goes_on : (f : List ℕ) (at w i v : ℕ) → at + w ≤ length f → i < w → true ≡ is_digit (get_or f (at + i) 0) →
-    Going f at w i v → Going f at w (i + 1) (v * 10 + (get_or f (at + i) 0 - 48))
-goes_on f at w i v inside h d (e, x, b) =
-    let s : get_or f (at + i) 0 - 48 < 10 = small (get_or f (at + i) 0) d in
+pub goes_on : (f : List ℕ) (at w i v d : ℕ) → i < w → Ok d ≡ read_digit f (at + i) →
+    Going f at w i v → Going f at w (i + 1) (v * 10 + d)
+goes_on f at w i v d h r g =
+    let b = get_or f (at + i) 0 in
+    let there = digit_by (ltb (at + i) (length f) && is_digit b) (b - 48) d (Malformed (at + i)) r in
+    let t = both (ltb (at + i) (length f)) (is_digit b) there.0 in
+    let l : at + i < length f = grind (arith, nat_tests) in
+    let s : b - 48 < 10 = small b t.1 in
     let m : value (take (i + 1) (drop at f)) ≡ value (take i (drop at f)) * 10 + (get_or (drop at f) i 0 - 48) =
     value_more (drop at f) i (rw length-drop (omega arith)) in
-    let g : get_or (drop at f) i 0 ≡ get_or f (at + i) 0 = get_or-drop at f i 0 in
+    let o : get_or (drop at f) i 0 ≡ b = get_or-drop at f i 0 in
     let p : 10 ^ (i + 1) ≡ 10 ^ i * 10 = ap (λ (n : ℕ). 10 ^ n) (add-one i) ∙ pow-suc 10 i in
     let q : wrong_from (at + i) (digit ∷ run (w - (i + 1))) f ≡ wrong_from (at + i + 1) (run (w - (i + 1))) f =
-    wrong_past (at + i) digit (run (w - (i + 1))) f (omega arith) (sym d) in
+    wrong_past (at + i) digit (run (w - (i + 1))) f l t.1 in
     let a : at + i + 1 ≡ at + (i + 1) = omega arith in
-    (e ∙ next_digit f at w i h ∙ q ∙ ap (λ (n : ℕ). wrong_from n (run (w - (i + 1))) f) a, omega (arith, m, g, x), omega arith)
+    record {
+      search_there = g.search_there ∙ next_digit f at w i h ∙ q ∙ ap (λ (n : ℕ). wrong_from n (run (w - (i + 1))) f) a;
+      so_far = omega (arith, m, o, g.so_far, there.1);
+      below = omega (arith, g.below, there.1);
+      within = λ z. omega arith;
+    }
 
-pub stops : (f : List ℕ) (at w i v : ℕ) → i < w → false ≡ is_digit (get_or f (at + i) 0) → Going f at w i v → Err (Malformed (at + i)) ≡ read_digits f at w
-stops f at w i v h d (e, x, b) =
-    let q : wrong_from (at + i) (digit ∷ run (w - (i + 1))) f ≡ Some (at + i) = wrong_here (at + i) digit (run (w - (i + 1))) f (sym d) in
-    sym (ap (λ (o : Option ℕ). unless o (value (take w (drop at f)))) (e ∙ next_digit f at w i h ∙ q))
+pub stops : (f : List ℕ) (at w i v : ℕ) (e : FrameFault) → i < w → Err e ≡ read_digit f (at + i) → Going f at w i v → Err e ≡ read_digits f at w
+unfolding wrong_from
+stops f at w i v e h r g =
+    let b = get_or f (at + i) 0 in
+    let none = fault_by (ltb (at + i) (length f) && is_digit b) (b - 48) e (Malformed (at + i)) r in
+    let q : wrong_from (at + i) (digit ∷ run (w - (i + 1))) f ≡ Some (at + i) =
+    ap (λ (x : Bool). cond x (wrong_from (at + i + 1) (run (w - (i + 1))) f) (Some (at + i))) none.0 in
+    ap Err none.1 ∙ sym (ap (λ (o : Option ℕ). unless o (value (take w (drop at f)))) (g.search_there ∙ next_digit f at w i h ∙ q))
 
 pub ends : (f : List ℕ) (at w i v : ℕ) → i ≡ w → Going f at w i v → Ok v ≡ read_digits f at w
 unfolding wrong_from
-ends f at w i v h (e, x, b) =
+ends f at w i v h g =
     let z : w - i ≡ 0 = omega arith in
-    let q : wrong_from at (run w) f ≡ None = e ∙ ap (λ (n : ℕ). wrong_from (at + i) (run n) f) z in
-    let y : v ≡ value (take w (drop at f)) = x ∙ ap (λ (k : ℕ). value (take k (drop at f))) h in
+    let q : wrong_from at (run w) f ≡ None = g.search_there ∙ ap (λ (n : ℕ). wrong_from (at + i) (run n) f) z in
+    let y : v ≡ value (take w (drop at f)) = g.so_far ∙ ap (λ (k : ℕ). value (take k (drop at f))) h in
     ap (λ (k : ℕ). unless None k) y ∙ sym (ap (λ (o : Option ℕ). unless o (value (take w (drop at f)))) q)
 
 -- what a value behind a search says of the search, and what a fault says
@@ -84,14 +119,14 @@ at_comma : (f : List ℕ) (at w v : ℕ) → Ok v ≡ read_digits f at w → wro
 at_comma f at w v h =
     pass at (run w) (just 44 ∷ []) f (value (take w (drop at f))) v h ∙ ap (λ (n : ℕ). wrong_from (at + n) (just 44 ∷ []) f) (length-replicate w digit)
 
-pub unclosed : (f : List ℕ) (at w v : ℕ) → (get_or f (at + w) 0 ≡ 44 → ⊥) → Ok v ≡ read_digits f at w → Err (Malformed (at + w)) ≡ read_number f at w
-unclosed f at w v n h =
-    let q : wrong_from (at + w) (just 44 ∷ []) f ≡ Some (at + w) = wrong_here (at + w) (just 44) [] f (grind (arith, nat_tests)) in
-    sym (ap (λ (o : Option ℕ). unless o (value (take w (drop at f)))) (at_comma f at w v h ∙ q))
+pub unclosed : (f : List ℕ) (at w v : ℕ) (e : FrameFault) → Err e ≡ unless (wrong_from (at + w) (just 44 ∷ []) f) (tt {0}) → Ok v ≡ read_digits f at w →
+    Err e ≡ read_number f at w
+unclosed f at w v e n h =
+    let p = some_wrong (wrong_from (at + w) (just 44 ∷ []) f) (tt {0}) e n in
+    ap Err p.2 ∙ sym (ap (λ (o : Option ℕ). unless o (value (take w (drop at f)))) (at_comma f at w v h ∙ p.1))
 
-pub field_ends : (f : List ℕ) (at w v : ℕ) → at + w + 1 ≤ length f → get_or f (at + w) 0 ≡ 44 → Ok v ≡ read_digits f at w → Ok v ≡ read_number f at w
-unfolding wrong_from
-field_ends f at w v inside n h =
-    let q : wrong_from (at + w) (just 44 ∷ []) f ≡ None = wrong_past (at + w) (just 44) [] f (omega arith) (grind (arith, nat_tests)) in
+pub field_ends : (f : List ℕ) (at w v : ℕ) → Ok tt ≡ unless (wrong_from (at + w) (just 44 ∷ []) f) (tt {0}) → Ok v ≡ read_digits f at w → Ok v ≡ read_number f at w
+field_ends f at w v n h =
+    let q = (none_wrong (wrong_from (at + w) (just 44 ∷ []) f) (tt {0}) tt n).0 in
     let y = (none_wrong (wrong_from at (run w) f) (value (take w (drop at f))) v h).1 in
     ap Ok y ∙ sym (ap (λ (o : Option ℕ). unless o (value (take w (drop at f)))) (at_comma f at w v h ∙ q))

@@ -1,15 +1,16 @@
 -- The header of a frame: five fields, each closed by a comma, and the text behind them.
-use Rattle.std.specs.Prelude.{◌≡◌, ℕ, ◌+◌, Bool, cond, ◌&&◌, List, [], ◌∷◌, ◌++◌, length, take, drop, Some, None, Ok, Err, Option, Result, ◌==◌, nat_le, slice_index}
+use Rattle.std.specs.Prelude.{◌≡◌, ℕ, ◌+◌, ◌-◌, Bool, cond, ◌&&◌, List, [], ◌∷◌, ◌++◌, length, take, drop, Some, None, Ok, Err, Option, Result, ◌==◌, nat_le, nat_lt, slice_index}
 use Rattle.frame.specs.Forms.{Spot, run, closed, first_wrong, wrong_from}
 use Rattle.frame.specs.Forms.Spot.{mark, just}
 use Rattle.frame.specs.Kinds.{mark_byte}
 use Rattle.frame.specs.declared.faults.FrameFault.{FrameFault}
 use Rattle.frame.specs.declared.faults.FrameFault.TheVariants.{Size, Malformed, Length}
 use Rattle.frame.specs.declared.header.Header.{Header}
-use Rattle.frame.specs.declared.header.Part.{Part}
 use Rattle.frame.specs.declared.kinds.Mark.{Mark}
 use Rattle.frame.specs.declared.kinds.Mark.TheVariants.{Retrieved, Fresh}
+use Rattle.notation.specs.Classes.{is_digit}
 use Rattle.notation.specs.Digits.{value, digits}
+use Rattle.notation.specs.declared.part.Part.{Part}
 
 -- member 4n, type 3n, number 6n, mark J or N, length of the text 4n
 abbrev pub header : List Spot
@@ -40,6 +41,10 @@ unless (Some k) a = Err (Malformed k)
 -- the header of any bytes, or why they have none
 abbrev pub read_header : List ℕ → Result Header FrameFault
 read_header f = cond (fit_size f) (unless (first_wrong header f) (header_of f)) (Err Size)
+
+-- the digit at byte `at`
+abbrev pub read_digit : List ℕ → ℕ → Result ℕ FrameFault
+read_digit f at = cond (nat_lt at (length f) && is_digit (slice_index f at)) (Ok (slice_index f at - 48)) (Err (Malformed at))
 
 -- w digits that begin at byte `at`
 abbrev pub read_digits : List ℕ → ℕ → ℕ → Result ℕ FrameFault

@@ -56,6 +56,10 @@ abbrev pub mark_byte : Mark → ℕ
 mark_byte Retrieved = 74
 mark_byte Fresh = 78
 
+-- the mark that this byte is, if it is one
+abbrev pub mark_with : ℕ → Option Mark
+mark_with b = cond (b == 74) (Some Retrieved) (cond (b == 78) (Some Fresh) None)
+
 -- 596 alone answers a posted trade
 abbrev pub answers : Kind → Bool
 answers LogOn = false

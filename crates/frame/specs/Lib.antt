@@ -1,4 +1,3 @@
-pub mod Allowed
 pub mod Arrivals
 pub mod Faults
 pub mod Forms
@@ -8,3 +7,4 @@ pub mod Kinds
 pub mod Sessions
 pub mod Texts
 pub mod Writing
+pub mod Words

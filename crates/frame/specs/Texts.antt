@@ -52,6 +52,15 @@ Rejects s = Front s × Is rejection s
 abbrev pub Unlisted : List ℕ → Type 0
 Unlisted s = Front s × (slice_index s 7 ≢ 66) × (slice_index s 7 ≢ 65)
 
+-- B confirms, A rejects
+abbrev pub verdict_byte : Verdict → ℕ
+verdict_byte Confirmed = 66
+verdict_byte Rejected = 65
+
+-- the verdict that this byte is, if it is one
+abbrev pub verdict_with : ℕ → Option Verdict
+verdict_with b = cond (b == 66) (Some Confirmed) (cond (b == 65) (Some Rejected) None)
+
 abbrev pub answer : Verdict → List ℕ → Answer
 answer v s = record { isn = record { 0 = isn_of s }; verdict = v }
 
@@ -74,6 +83,11 @@ is_trade_number w = nat_le 1 (length w) && (nat_le (length w) 16 && follows (rep
 
 abbrev pub is_reason : List ℕ → Bool
 is_reason w = length w == 7 && follows reason w
+
+-- what stands behind each verdict: a trade number, or a reason
+abbrev pub grounds : Verdict → List ℕ → Bool
+grounds Confirmed w = is_trade_number w
+grounds Rejected w = is_reason w
 
 abbrev pub answer_of : List ℕ → Result Answer FieldFault
 answer_of s =

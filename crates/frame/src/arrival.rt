@@ -3,7 +3,8 @@ ghost use Rattle.frame.specs.Arrivals.{arriving, contents_of, message_of, for_li
 ghost use Rattle.frame.specs.Judging.{Judged, told};
 ghost use Rattle.frame.specs.declared.arrival.Arrival.{Arrival};
 ghost use Rattle.notation.specs.declared.refusals.Refusal.{Refusal};
-ghost use Rattle.std.specs.Prelude.{◌≡◌, Result};
+ghost use Rattle.frame.specs.declared.faults.FrameFault.TheVariants.{NotTaken};
+ghost use Rattle.std.specs.Prelude.{◌≡◌, Result, ok_or};
 
 use crate::faults::{FrameFault, LineFault, TEXT_AT};
 use crate::header::{Header, read_header};
@@ -12,14 +13,14 @@ use crate::texts::{Answer, check_plain, read_answer};
 use notation::refusals::FieldFault;
 
 // The numbers under which the exchange sends to a line.
-#[derive(Clone, Copy)]
+#[derive(Clone, Copy, PartialEq, Eq, Debug)]
 pub struct Circle {
     pub first: Osn,
     pub last: Osn,
 }
 
 // A numbered message of the exchange: its header, its type, and for a 596 what it says of a trade.
-#[derive(Clone, Copy)]
+#[derive(Clone, Copy, PartialEq, Eq, Debug)]
 pub struct Message {
     pub header: Header,
     pub kind: Kind,
@@ -27,7 +28,7 @@ pub struct Message {
 }
 
 // An arrival that is taken: its number and type, where its text begins, and for a 596 what it says of a trade.
-#[derive(Clone, Copy)]
+#[derive(Clone, Copy, PartialEq, Eq, Debug)]
 pub struct Arrival {
     pub number: Osn,
     pub kind: Kind,
@@ -40,9 +41,7 @@ pub fn read_message(frame: &[u8]) -> Result<Message, FrameFault>
     ensures answer { result ≡ message_of frame.now }
 {
     let header = read_header(frame)?;
-    let Some(kind) = find_arriving(header.code) else {
-        return Err(FrameFault::NotTaken);
-    };
+    let kind = find_arriving(header.code)?;
     let text = header.text(frame)?;
     let answer = read_contents(kind, text.bytes)?;
     Ok(Message {
@@ -52,12 +51,12 @@ pub fn read_message(frame: &[u8]) -> Result<Message, FrameFault>
     })
 }
 
-// The type with this number, if the exchange sends it under a number of its own.
-fn find_arriving(code: u16) -> Option<Kind>
-    ensures answer { result ≡ arriving «code» }
+// The type with this number, if the exchange sends it under a number of its own; else 13.
+fn find_arriving(code: u16) -> Result<Kind, FrameFault>
+    ensures answer { result ≡ ok_or (arriving «code») NotTaken }
 {
-    let kind = Kind::from_code(code)?;
-    if kind.arrives() { Some(kind) } else { None }
+    let kind = Kind::try_from(code)?;
+    kind.arrives().then_some(kind).ok_or(FrameFault::NotTaken)
 }
 
 // What a text of this type says of a trade, if it says anything of one.
@@ -65,11 +64,10 @@ fn read_contents(kind: Kind, text: &[u8]) -> Result<Option<Answer>, FieldFault>
     ensures answer { result ≡ contents_of kind text.now }
 {
     if kind.answers() {
-        let answer = read_answer(text)?;
-        return Ok(Some(answer));
+        read_answer(text).map(Some)
+    } else {
+        check_plain(text).map(|()| None)
     }
-    check_plain(text)?;
-    Ok(None)
 }
 
 impl Message {
@@ -77,15 +75,15 @@ impl Message {
     pub fn arrive_at(&self, member: u16, circle: Circle) -> Result<Arrival, LineFault>
         ensures answer { result ≡ for_line member circle self.now }
     {
-        let number = self.header.number;
+        let number = Osn(self.header.number);
         if self.header.member != member {
             return Err(LineFault::Member);
         }
-        if number < circle.first.0 || number > circle.last.0 {
+        if number < circle.first || number > circle.last {
             return Err(LineFault::Number);
         }
         Ok(Arrival {
-            number: Osn(number),
+            number,
             kind: self.kind,
             text: TEXT_AT,
             answer: self.answer,
@@ -100,6 +98,5 @@ pub fn judge(frame: &[u8], member: u16, circle: Circle) -> Result<Arrival, LineF
     ensures one_answer { (q : Result Arrival Refusal) → Judged member circle frame.now q → q ≡ told result }
 {
     let message = read_message(frame)?;
-    let arrival = message.arrive_at(member, circle)?;
-    Ok(arrival)
+    message.arrive_at(member, circle)
 }

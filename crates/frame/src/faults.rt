@@ -3,12 +3,18 @@ ghost use Rattle.frame.specs.Faults.{frame_refusal, line_refusal, in_frame, in_f
 ghost use Rattle.frame.specs.declared.faults.LineFault.TheVariants.{InFrame};
 ghost use Rattle.std.specs.Prelude.{◌≡◌};
 
-use notation::refusals::{FieldFault, Layer, Refusal, TextFault};
+use notation::refusals::{FieldFault, Layer, Refusal, TextFault, Why};
 
 // The text of a frame begins at this byte.
 pub const TEXT_AT: usize = 23;
 
-#[derive(Clone, Copy)]
+// A text that is not of its notation as a whole.
+pub(crate) const NOT_OF_THE_NOTATION: FieldFault = FieldFault {
+    why: Why::Notation,
+    offset: 0,
+};
+
+#[derive(Clone, Copy, PartialEq, Eq, Debug)]
 pub enum FrameFault {
     // below 23 or above 1,023 bytes: 11
     Size,
@@ -22,32 +28,21 @@ pub enum FrameFault {
     InText(TextFault),
 }
 
-impl FrameFault {
-    pub fn refusal(&self) -> Refusal
-        ensures as_numbered { result ≡ frame_refusal self.now }
-    {
-        match self {
-            FrameFault::Size => Refusal {
-                number: 11,
-                layer: Layer::Frame,
-                offset: 0,
-            },
-            FrameFault::Malformed(at) => Refusal {
-                number: 12,
-                layer: Layer::Frame,
-                offset: *at,
-            },
-            FrameFault::NotTaken => Refusal {
-                number: 13,
-                layer: Layer::Frame,
-                offset: 5,
-            },
-            FrameFault::Length => Refusal {
-                number: 14,
-                layer: Layer::Frame,
-                offset: 18,
-            },
-            FrameFault::InText(fault) => fault.refusal(),
+impl From<FrameFault> for Refusal {
+    ghost from_gives = { λ e r. r ≡ frame_refusal e };
+
+    fn from(e: FrameFault) -> Refusal {
+        let (number, offset) = match e {
+            FrameFault::Size => (11, 0),
+            FrameFault::Malformed(at) => (12, at),
+            FrameFault::NotTaken => (13, 5),
+            FrameFault::Length => (14, 18),
+            FrameFault::InText(fault) => return Refusal::from(fault),
+        };
+        Refusal {
+            number,
+            layer: Layer::Frame,
+            offset,
         }
     }
 }
@@ -77,7 +72,7 @@ impl From<FieldFault> for FrameFault {
 }
 
 // What a call on a line or a session refuses.
-#[derive(Clone, Copy)]
+#[derive(Clone, Copy, PartialEq, Eq, Debug)]
 pub enum LineFault {
     // the frame itself is refused: 11 to 19
     InFrame(FrameFault),
@@ -103,13 +98,13 @@ pub enum LineFault {
     InTrade(FieldFault),
 }
 
-impl LineFault {
-    pub fn refusal(&self) -> Refusal
-        ensures as_numbered { result ≡ line_refusal self.now }
-    {
-        let number = match self {
-            LineFault::InFrame(fault) => return fault.refusal(),
-            LineFault::InTrade(fault) => return fault.refusal(),
+impl From<LineFault> for Refusal {
+    ghost from_gives = { λ e r. r ≡ line_refusal e };
+
+    fn from(e: LineFault) -> Refusal {
+        let number = match e {
+            LineFault::InFrame(fault) => return Refusal::from(fault),
+            LineFault::InTrade(fault) => return Refusal::from(fault),
             LineFault::Short => 20,
             LineFault::Setting => 21,
             LineFault::Unknown => 22,

@@ -1,25 +1,22 @@
 // The header of a frame: five fields, each closed by a comma: member (4 digits), type (3), number (6), mark (J or N), length of the text (4).
-ghost use Rattle.std.specs.Prelude.{◌≡◌, ℕ, ◌+◌, ◌^◌, ◌<◌, ◌≤◌, length, IfOk};
-ghost use Rattle.frame.specs.Headers.{read_header, read_number, read_digits, read_mark, text_of, seen, WrittenAs};
+ghost use Rattle.std.specs.Prelude.{◌≡◌, ℕ, ◌+◌, ◌^◌, ◌<◌, ◌≤◌, [], ◌∷◌, length, IfOk, OnOk};
+ghost use Rattle.frame.specs.Forms.{wrong_from};
+ghost use Rattle.frame.specs.Forms.Spot.{just};
+ghost use Rattle.frame.specs.Headers.{read_header, read_number, read_digits, read_digit, read_mark, text_of, unless, seen, WrittenAs};
 
 use crate::faults::{FrameFault, TEXT_AT};
 use crate::kinds::Mark;
 use notation::classes::is_digit;
+use notation::part::Part;
 
-#[derive(Clone, Copy)]
+#[derive(Clone, Copy, PartialEq, Eq, Debug)]
 pub struct Header {
     pub member: u16,
+    // the type's number; it stays a number, since a header may name a type that is not ours
     pub code: u16,
     pub number: u32,
     pub mark: Mark,
     pub length: u16,
-}
-
-// A part of a frame, and where it begins there.
-#[derive(Clone, Copy)]
-pub struct Part<'a> {
-    pub bytes: &'a [u8],
-    pub at: usize,
 }
 
 impl Header {
@@ -38,6 +35,7 @@ impl Header {
 }
 
 // The header of a frame of any bytes: 11 for its size, then 12 at the first wrong byte.
+#[tactic(auto, using(crate::proofs::Headings::wrong_member, crate::proofs::Headings::wrong_type, crate::proofs::Headings::wrong_number))]
 pub fn read_header(frame: &[u8]) -> Result<Header, FrameFault>
     ensures answer { result ≡ read_header frame.now }
     ensures is_what_would_be_written { IfOk result (λ h. WrittenAs h frame.now) }
@@ -60,48 +58,60 @@ pub fn read_header(frame: &[u8]) -> Result<Header, FrameFault>
 }
 
 // One field of digits that begins at `at`, with the comma that closes it.
+#[tactic(auto, using(crate::proofs::Numbers::field_stops, crate::proofs::Numbers::unclosed, crate::proofs::Numbers::field_ends))]
 pub(crate) fn read_number(frame: &[u8], at: usize, width: usize) -> Result<u32, FrameFault>
-    requires inside { at + width + 1 ≤ length frame.now }
     requires small { width ≤ 6 }
     ensures answer { result ≡ read_number frame.now at width }
     ensures below { IfOk result (λ v. v < 10 ^ width) }
 {
     let value = read_digits(frame, at, width)?;
-    if frame[at + width] != b',' {
-        return Err(FrameFault::Malformed(at + width));
-    }
+    check_comma(frame, at + width)?;
     Ok(value)
 }
 
-// The value of the digits that begin at `at`.
+// The value of the digits that begin at `at`. A byte that is no digit, or is absent, is malformed.
 pub(crate) fn read_digits(frame: &[u8], at: usize, width: usize) -> Result<u32, FrameFault>
-    requires inside { at + width ≤ length frame.now }
     requires small { width ≤ 6 }
     ensures answer { result ≡ read_digits frame.now at width }
     ensures below { IfOk result (λ v. v < 10 ^ width) }
+    ensures within { OnOk result (0 < width → at + width ≤ length frame.now) }
 {
     let mut value = 0;
+    // by place and not by byte, since a digit that is absent is told by its place
     for i in 0..width {
-        let b = frame[at + i];
-        if !is_digit(b) {
-            return Err(FrameFault::Malformed(at + i));
-        }
-        value = value * 10 + (b - b'0') as u32;
+        let digit = read_digit(frame, at + i)?;
+        value = value * 10 + digit;
     }
     Ok(value)
 }
 
+fn read_digit(frame: &[u8], at: usize) -> Result<u32, FrameFault>
+    ensures answer { result ≡ read_digit frame.now at }
+{
+    match frame.get(at) {
+        Some(b) if is_digit(*b) => Ok(u32::from(*b - b'0')),
+        _ => Err(FrameFault::Malformed(at)),
+    }
+}
+
+#[tactic(auto, unfolding(crate::specs::Forms::wrong_from))]
+fn check_comma(frame: &[u8], at: usize) -> Result<(), FrameFault>
+    ensures answer { result ≡ unless (wrong_from at (just 44 ∷ []) frame.now) tt }
+{
+    if frame.get(at) != Some(&b',') {
+        return Err(FrameFault::Malformed(at));
+    }
+    Ok(())
+}
+
+#[tactic(auto, unfolding(crate::specs::Forms::wrong_from))]
 fn read_mark(frame: &[u8]) -> Result<Mark, FrameFault>
-    requires inside { 18 ≤ length frame.now }
     ensures answer { result ≡ read_mark frame.now }
 {
-    let mark = match frame[16] {
-        b'J' => Mark::Retrieved,
-        b'N' => Mark::Fresh,
-        _ => return Err(FrameFault::Malformed(16)),
-    };
-    if frame[17] != b',' {
-        return Err(FrameFault::Malformed(17));
-    }
+    let mark = frame
+        .get(16)
+        .and_then(|b| Mark::try_from(*b).ok())
+        .ok_or(FrameFault::Malformed(16))?;
+    check_comma(frame, 17)?;
     Ok(mark)
 }

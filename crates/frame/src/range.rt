@@ -1,50 +1,32 @@
 // The text of a retrieval: `from,to`, six digits each.
 ghost use Rattle.frame.specs.Texts.{range_of, range_written, read_ends};
-ghost use Rattle.std.specs.Prelude.{◌≡◌, length, IfOk, Ok};
+ghost use Rattle.std.specs.Prelude.{◌≡◌, IfOk, Ok};
 
-use crate::faults::FrameFault;
+use crate::faults::{FrameFault, NOT_OF_THE_NOTATION};
 use crate::header::{read_digits, read_number};
 use crate::kinds::Osn;
-use crate::write::last_digit;
-use notation::refusals::{FieldFault, Why};
-
-const NOT_OF_THE_NOTATION: FieldFault = FieldFault {
-    why: Why::Notation,
-    offset: 0,
-};
+use crate::write::put_digits;
+use notation::refusals::FieldFault;
 
 // The messages that are asked for once more, from the first to the last.
-#[derive(Clone, Copy)]
+#[derive(Clone, Copy, PartialEq, Eq, Debug)]
 pub struct Range {
     pub from: Osn,
     pub to: Osn,
 }
 
-// The range as text; a number above 999999 is 16.
+// The range as text, in an array, since nothing is allocated; a number above 999999 is 16.
 pub fn write_range(range: Range) -> Result<[u8; 13], FieldFault>
     ensures answer { result ≡ range_written range }
     ensures reads_back { IfOk result (λ text. range_of text ≡ Ok range) }
 {
-    let a = range.from.0;
-    let b = range.to.0;
-    if a > 999999 || b > 999999 {
+    if range.from.0 > 999999 || range.to.0 > 999999 {
         return Err(NOT_OF_THE_NOTATION);
     }
-    Ok([
-        last_digit(a / 100000),
-        last_digit(a / 10000),
-        last_digit(a / 1000),
-        last_digit(a / 100),
-        last_digit(a / 10),
-        last_digit(a),
-        b',',
-        last_digit(b / 100000),
-        last_digit(b / 10000),
-        last_digit(b / 1000),
-        last_digit(b / 100),
-        last_digit(b / 10),
-        last_digit(b),
-    ])
+    let mut text = [b','; 13];
+    put_digits(&mut text[0..6], range.from.0);
+    put_digits(&mut text[7..13], range.to.0);
+    Ok(text)
 }
 
 // The range that a text names; any other text is 16.
@@ -54,14 +36,11 @@ pub fn read_range(text: &[u8]) -> Result<Range, FieldFault>
     if text.len() != 13 {
         return Err(NOT_OF_THE_NOTATION);
     }
-    match read_ends(text) {
-        Ok(range) => Ok(range),
-        Err(_) => Err(NOT_OF_THE_NOTATION),
-    }
+    read_ends(text).map_err(|_| NOT_OF_THE_NOTATION)
 }
 
+#[tactic(auto, using(crate::proofs::Ranges::from_wrong, crate::proofs::Ranges::to_wrong, crate::proofs::Ranges::both_read))]
 fn read_ends(text: &[u8]) -> Result<Range, FrameFault>
-    requires inside { length text.now ≡ 13 }
     ensures answer { result ≡ read_ends text.now }
 {
     let from = read_number(text, 0, 6)?;

@@ -33,6 +33,9 @@ pub struct Leaving {
     member: u16,
 }
 
+// The two steps that write, and the two that take a confirmation, are three lines each over what they share (write_request and
+// check_confirmed). What differs is their states, which are four plain types, so that each step takes one and gives the next.
+
 impl Off {
     // A session of this member; a number above 9999 is 21.
     pub fn new(member: u16) -> Result<Off, LineFault>
@@ -50,29 +53,24 @@ impl Off {
         ensures output { out.new ≡ request_after LogOn self.member out.old }
         ensures refusal_changes_nothing { OnErr result (out.new ≡ out.old) }
     {
-        match write_request(out, self.member, Kind::LogOn) {
-            Ok(n) => {
-                let Off { member } = self;
-                Ok((Asked { member }, n))
-            }
-            Err(fault) => Err((self, fault)),
-        }
+        let member = self.member;
+        write_request(out, member, Kind::LogOn)
+            .map(|n| (Asked { member }, n))
+            .map_err(|fault| (self, fault))
     }
 }
 
 impl Asked {
     // A 001 frame for this member opens the session.
+    #[tactic(auto, using(crate::proofs::Confirmed::accepts_it))]
     pub fn accept(self, frame: &[u8]) -> Result<Open, (Asked, LineFault)>
         ensures answer { result ≡ passed (confirmed LoggedOn self.member frame.now) self (record { member = self.member }) }
         ensures accepts_the_confirmation_alone { AcceptsIt LoggedOn self.member frame.now (is_ok result) }
     {
-        match check_confirmed(frame, self.member, Kind::LoggedOn) {
-            Ok(()) => {
-                let Asked { member } = self;
-                Ok(Open { member })
-            }
-            Err(fault) => Err((self, fault)),
-        }
+        let member = self.member;
+        check_confirmed(frame, member, Kind::LoggedOn)
+            .map(|()| Open { member })
+            .map_err(|fault| (self, fault))
     }
 }
 
@@ -83,29 +81,24 @@ impl Open {
         ensures output { out.new ≡ request_after LogOff self.member out.old }
         ensures refusal_changes_nothing { OnErr result (out.new ≡ out.old) }
     {
-        match write_request(out, self.member, Kind::LogOff) {
-            Ok(n) => {
-                let Open { member } = self;
-                Ok((Leaving { member }, n))
-            }
-            Err(fault) => Err((self, fault)),
-        }
+        let member = self.member;
+        write_request(out, member, Kind::LogOff)
+            .map(|n| (Leaving { member }, n))
+            .map_err(|fault| (self, fault))
     }
 }
 
 impl Leaving {
     // A 003 frame for this member ends the session.
+    #[tactic(auto, using(crate::proofs::Confirmed::accepts_it))]
     pub fn accept(self, frame: &[u8]) -> Result<Off, (Leaving, LineFault)>
         ensures answer { result ≡ passed (confirmed LoggedOff self.member frame.now) self (record { member = self.member }) }
         ensures accepts_the_confirmation_alone { AcceptsIt LoggedOff self.member frame.now (is_ok result) }
     {
-        match check_confirmed(frame, self.member, Kind::LoggedOff) {
-            Ok(()) => {
-                let Leaving { member } = self;
-                Ok(Off { member })
-            }
-            Err(fault) => Err((self, fault)),
-        }
+        let member = self.member;
+        check_confirmed(frame, member, Kind::LoggedOff)
+            .map(|()| Off { member })
+            .map_err(|fault| (self, fault))
     }
 }
 
@@ -114,7 +107,7 @@ fn write_request(out: &mut [u8], member: u16, kind: Kind) -> Result<usize, LineF
     ensures answer { result ≡ request kind member (length out.old) }
     ensures output { out.new ≡ request_after kind member out.old }
 {
-    let n = write_frame(
+    write_frame(
         out,
         Heading {
             member,
@@ -123,8 +116,7 @@ fn write_request(out: &mut [u8], member: u16, kind: Kind) -> Result<usize, LineF
             mark: Mark::Fresh,
         },
         &[],
-    )?;
-    Ok(n)
+    )
 }
 
 // Whether a frame is the confirmation that a session waits for: 11, 12, then 13 for another type, 14 for a text, 31, and 32 for a number but 000000.
@@ -132,18 +124,17 @@ fn check_confirmed(frame: &[u8], member: u16, kind: Kind) -> Result<(), LineFaul
     ensures answer { result ≡ confirmed kind member frame.now }
 {
     let header = read_header(frame)?;
-    check_header(&header, frame.len(), member, kind)?;
-    Ok(())
+    check_header(&header, frame.len(), member, kind)
 }
 
 fn check_header(header: &Header, size: usize, member: u16, kind: Kind) -> Result<(), LineFault>
     ensures answer { result ≡ confirms kind member size header.now }
 {
     if header.code != kind.code() {
-        return Err(LineFault::InFrame(FrameFault::NotTaken));
+        return Err(FrameFault::NotTaken.into());
     }
     if header.length != 0 || size != TEXT_AT {
-        return Err(LineFault::InFrame(FrameFault::Length));
+        return Err(FrameFault::Length.into());
     }
     if header.member != member {
         return Err(LineFault::Member);

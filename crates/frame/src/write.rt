@@ -1,12 +1,13 @@
 // Writing a frame into a lent output.
 ghost use Rattle.std.specs.Prelude.{◌≡◌, ◌+◌, ◌%◌, ◌<◌, ◌≤◌, length, take, IfOk, OnErr};
+ghost use Rattle.notation.specs.Digits.{digits};
 ghost use Rattle.frame.specs.Writing.{head_text, frame_text, unwritable, allowed, wrote, output_after, ReadsBack, JudgedBack};
 
 use crate::faults::{FrameFault, LineFault, TEXT_AT};
 use crate::kinds::{Kind, Mark};
 
 // What is written in front of a text.
-#[derive(Clone, Copy)]
+#[derive(Clone, Copy, PartialEq, Eq, Debug)]
 pub struct Heading {
     pub member: u16,
     pub kind: Kind,
@@ -31,46 +32,28 @@ impl Heading {
         Ok(())
     }
 
-    // The header in front of a text of this length.
+    // The header in front of a text of this length, in an array, since nothing is allocated.
     fn bytes(&self, length: u32) -> [u8; 23]
         ensures every_byte { result ≡ head_text self.now «length» }
     {
-        let m = self.member as u32;
-        let t = self.kind.code() as u32;
-        let n = self.number;
-        [
-            last_digit(m / 1000),
-            last_digit(m / 100),
-            last_digit(m / 10),
-            last_digit(m),
-            b',',
-            last_digit(t / 100),
-            last_digit(t / 10),
-            last_digit(t),
-            b',',
-            last_digit(n / 100000),
-            last_digit(n / 10000),
-            last_digit(n / 1000),
-            last_digit(n / 100),
-            last_digit(n / 10),
-            last_digit(n),
-            b',',
-            self.mark.byte(),
-            b',',
-            last_digit(length / 1000),
-            last_digit(length / 100),
-            last_digit(length / 10),
-            last_digit(length),
-            b',',
-        ]
+        let mut head = [b','; 23];
+        put_digits(&mut head[0..4], u32::from(self.member));
+        put_digits(&mut head[5..8], u32::from(self.kind.code()));
+        put_digits(&mut head[9..15], self.number);
+        head[16] = u8::from(self.mark);
+        put_digits(&mut head[18..22], length);
+        head
     }
 }
 
-// The digit of the ones of n.
-pub(crate) fn last_digit(n: u32) -> u8
-    ensures value { result ≡ n % 10 + 48 }
+// Fills the output with the last digits of n, as many as it has bytes.
+pub(crate) fn put_digits(out: &mut [u8], n: u32)
+    ensures every_digit { out.new ≡ digits (length out.old) n }
 {
-    (n % 10) as u8 + b'0'
+    if let Some((last, front)) = out.split_last_mut() {
+        *last = (n % 10) as u8 + b'0';
+        put_digits(front, n / 10);
+    }
 }
 
 // Writes the frame into the output, and answers its length. The output keeps its bytes past the frame, and all of them at a refusal.

@@ -1,9 +1,9 @@
 -- Places one by one: what a keep, a drop and a copy make of them.
-use Rattle.std.proofs.Common.{◌≡◌, ℕ, zero, suc, ◌+◌, ◌<◌, ◌≤◌, Bool, true, false, cond, not, ◌&&◌, ltb, leb, List, [], ◌∷◌, ◌++◌, length, get_or, drop, set, replicate, is_some, Some, None, Option, sym, refl, ap, ◌∙◌, ap₂, ⊎_elim, le_of_suc-le-suc, arith}
-use Rattle.std.proofs.lemmas.List.{get_or-set_same, set-get_or, set-set, set_past, set_at, drop_more, drop_all, append_assoc, append-nil, length-replicate, replicate_more}
-use Rattle.std.proofs.lemmas.Bool.{le-leb, lt-leb, and_parts, leb-true, ltb-true, not-true, false≢true, cases_lt}
+use Rattle.std.proofs.Common.{◌≡◌, ℕ, zero, suc, ◌+◌, ◌<◌, ◌≤◌, true, false, not, ltb, leb, [], ◌∷◌, ◌++◌, length, get_or, drop, set, replicate, is_some, Some, None, Option, sym, refl, ap, ◌∙◌, ⊎_elim, le_of_suc-le-suc, arith}
+use Rattle.std.proofs.lemmas.List.{set-get_or, set-set, set_past, set_at, drop_more, append_assoc, length-replicate, replicate_more}
+use Rattle.std.proofs.lemmas.Bool.{and_parts, leb-true, ltb-true, not-true, false≢true, cases_lt}
 use Rattle.std.proofs.lemmas.Bool.Decides.{nat_tests}
-use Rattle.hold.specs.Meaning.{Cell, Cells, cell_at, size, bytes_held, frame_sized, stores, copies, copied, comes_back}
+use Rattle.hold.specs.Meaning.{Cell, Cells, cell_at, size, bytes_held, frame_sized, stores}
 
 pub none_of : {E : Type 0} (e : Option E) → is_some e ≡ false → e ≡ None
 none_of None h = refl
@@ -72,42 +72,6 @@ dropped_more cs ds i h e =
     ∙ sym (append_assoc (replicate i None) (None ∷ []) (drop (i + 1) cs))
     ∙ ap (λ xs. xs ++ drop (i + 1) cs) (replicate_more i None)
 
-pub dropped_all : (cs ds : Cells) (i : ℕ) → i ≡ length cs → ds ≡ replicate i None ++ drop i cs → ds ≡ replicate (length cs) None
-dropped_all cs ds i h e =
-    let l : length cs ≤ i = omega arith in
-    e ∙ ap (λ xs. replicate i None ++ xs) (drop_all i cs l) ∙ append-nil (replicate i None) ∙ ap (λ n. replicate n None) h
-
--- a copy to an output that is too short, and to one that is long enough
-pub copied_not : (c : Cell) (f o : List ℕ) → c ≡ Some f → length o < length f → (false ≡ copies c (length o)) × (o ≡ copied c o)
-copied_not c f o e h =
-    let t = lt-leb (length f) (length o) h in (
-      sym (ap (λ y. copies y (length o)) e ∙ t),
-      sym (ap (λ y. copied y o) e ∙ ap (λ y. cond y (f ++ drop (length f) o) o) t),
-    )
-
-pub copied_whole : (c : Cell) (f o z : List ℕ) (m : ℕ) → c ≡ Some f → length f ≤ length o → m ≡ length f → z ≡ f →
-    (true ≡ copies c (length o)) × (z ++ drop m o ≡ copied c o)
-copied_whole c f o z m e h q w =
-    let t = le-leb (length f) (length o) h in (
-      sym (ap (λ y. copies y (length o)) e ∙ t),
-      ap₂ (λ y i. y ++ drop i o) w q ∙ sym (ap (λ y. copied y o) e ∙ ap (λ y. cond y (f ++ drop (length f) o) o) t),
-    )
-
--- a frame stored at a place, copied back and dropped
-module _ (cs ds : Cells) (most k : ℕ) (f out : List ℕ) (s : true ≡ stores cs most k (length f)) (e : ds ≡ set cs k (Some f)) where
-  pub stands_there : cell_at ds k ≡ Some f
-  stands_there = ap (λ xs. cell_at xs k) e ∙ get_or-set_same cs k (Some f) None (stores_gives cs most k (length f) (sym s)).below
-
-  pub back_when : (b : Bool) → b ≡ copies (cell_at ds k) (length out) → comes_back cs most k (length f) (length out) ≡ b
-  back_when b c = ap (λ x. x && leb (length f) (length out)) (sym s) ∙ sym (c ∙ ap (λ x. copies x (length out)) stands_there)
-
-  pub written_back : (b : Bool) → b ≡ copies (cell_at ds k) (length out) →
-      copied (cell_at ds k) out ≡ cond (comes_back cs most k (length f) (length out)) (f ++ drop (length f) out) out
-  written_back b c =
-      ap (λ x. copied x out) stands_there
-      ∙ ap (λ x. cond x (f ++ drop (length f) out) out) (sym (ap (λ x. x && leb (length f) (length out)) (sym s)))
-
-  pub dropped_back : (es : Cells) → es ≡ set ds k None → es ≡ cs
-  dropped_back es q =
-      q ∙ ap (λ xs. set xs k None) e ∙ set-set cs k (Some f) None
-      ∙ ap (set cs k) (sym (stores_gives cs most k (length f) (sym s)).empty) ∙ set-get_or cs k None
+-- an empty place that is filled and emptied again
+pub dropped_again : (cs : Cells) (k : ℕ) (c : Cell) → is_some (cell_at cs k) ≡ false → set (set cs k c) k None ≡ cs
+dropped_again cs k c e = set-set cs k c None ∙ ap (set cs k) (sym (none_of (cell_at cs k) e)) ∙ set-get_or cs k None

@@ -1,4 +1,3 @@
 pub mod Cells
-pub mod Parts
 mod Laws
 mod Turns

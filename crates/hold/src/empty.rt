@@ -3,7 +3,7 @@ ghost use Rattle.std.specs.Prelude.{[]};
 
 use crate::Hold;
 
-#[derive(Clone, Copy)]
+#[derive(Clone, Copy, PartialEq, Eq, Debug)]
 pub struct Empty;
 
 impl Hold for Empty {
@@ -29,6 +29,7 @@ impl Hold for Empty {
         false // nothing to write
     }
 
+    #[tactic(auto, unfolding(table::specs::Places::taken_places))]
     fn taken(&self) -> usize {
         0 // none is taken
     }

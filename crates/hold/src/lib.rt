@@ -1,8 +1,8 @@
 // Holds: where frames that arrive early wait for their turn.
 #![tactic(auto)]
 
-ghost use Rattle.std.specs.Prelude.{◌≡◌, ℕ, ◌≤◌, ◌++◌, length, drop, replicate, if◌then◌else◌, Some, None, slice_set};
-ghost use Rattle.hold.specs.Meaning.{Cells, cell_at, comes_back, copied, copies, frame_length, stores};
+ghost use Rattle.std.specs.Prelude.{◌≡◌, ℕ, ◌≤◌, ◌++◌, length, drop, replicate, if◌then◌else◌, Some, None, option_copied, slice_set};
+ghost use Rattle.hold.specs.Meaning.{Cells, cell_at, comes_back, copied, copies, frame_length, frame_sized, stores};
 ghost use Rattle.table.specs.Places.{taken_places};
 
 pub mod empty;
@@ -10,7 +10,7 @@ pub mod operations;
 
 // A hold by its meaning. Everything above a hold is proved against `cells` and `most` alone.
 // Only `drop`, and a `keep` that stores, change what the places hold; nothing changes how many places there are, or
-// the most bytes in all.
+// the most bytes in all. Each call says so in a clause, since a type's invariant cannot tie what is after a call to what was before.
 pub trait Hold {
     // what each place holds
     ghost cells: { Self → Cells };
@@ -49,7 +49,29 @@ pub trait Hold {
         ensures answer { result ≡ taken_places (cells self.now) };
 }
 
-// Empties every place.
+// Whether a frame may have so many bytes: 23 to 1,023.
+pub fn is_frame_length(length: usize) -> bool
+    ensures answer { result ≡ frame_sized length }
+{
+    (23..=1023).contains(&length)
+}
+
+// What `copy` does, given what the place holds.
+pub fn copy_frame(frame: Option<&[u8]>, out: &mut [u8]) -> bool
+    ensures answer { result ≡ copies (option_copied frame.entry) (length out.old) }
+    ensures output { out.new ≡ copied (option_copied frame.entry) out.old }
+{
+    match frame {
+        Some(frame) if frame.len() <= out.len() => {
+            out[..frame.len()].copy_from_slice(frame);
+            true
+        }
+        _ => false,
+    }
+}
+
+// Empties every place, by its number, which is what a hold's calls take.
+#[tactic(auto, using(crate::proofs::Cells::dropped_more))]
 pub fn drop_all<H: Hold>(hold: &mut H)
     ensures all_empty { H.cells hold.new ≡ replicate (length (H.cells hold.old)) None }
     ensures most_unchanged { H.most hold.new ≡ H.most hold.old }
@@ -61,6 +83,7 @@ pub fn drop_all<H: Hold>(hold: &mut H)
 
 // Tries a place out: stores the frame, looks at it, copies it back and drops it. The frame's length as the hold told it,
 // if the frame came back whole; the hold is as before in any case.
+#[tactic(auto, using(crate::proofs::Cells::dropped_again))]
 pub fn try_out<H: Hold>(hold: &mut H, place: usize, frame: &[u8], out: &mut [u8]) -> Option<usize>
     ensures answer { result ≡ (if comes_back (H.cells hold.old) (H.most hold.old) place (length frame.now) (length out.old) then Some (length frame.now) else None) }
     ensures output { out.new ≡ (if comes_back (H.cells hold.old) (H.most hold.old) place (length frame.now) (length out.old) then frame.now ++ drop (length frame.now) out.old else out.old) }
@@ -73,5 +96,5 @@ pub fn try_out<H: Hold>(hold: &mut H, place: usize, frame: &[u8], out: &mut [u8]
     let length = hold.look(place);
     let came_back = hold.copy(place, out);
     hold.drop(place);
-    if came_back { length } else { None }
+    if came_back { length } else { None } // filter is no plainer
 }

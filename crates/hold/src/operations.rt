@@ -5,7 +5,7 @@ ghost use Rattle.std.specs.Prelude.{◌≡◌, [], ◌∷◌, map, length};
 
 use crate::{Hold, drop_all};
 
-#[derive(Clone, Copy)]
+#[derive(Clone, Copy, PartialEq, Eq, Debug)]
 pub enum Task<'a> {
     // keep the frame at the place
     Keep(usize, &'a [u8]),
@@ -13,7 +13,8 @@ pub enum Task<'a> {
     Drop(usize),
 }
 
-// A task, and whether it stored a frame; a drop never does.
+// A task, and whether it stored a frame; a drop never does. The answer stands beside the task, and not in a keep, since
+// `perform` promises that the tasks stay as they are.
 #[derive(Drop)]
 pub struct Operation<'a> {
     pub task: Task<'a>,
@@ -25,16 +26,17 @@ fn perform_one<H: Hold>(hold: &mut H, operation: &mut Operation<'_>)
     ensures most_unchanged { H.most hold.new ≡ H.most hold.old }
     ensures task_unchanged { operation.new.task ≡ operation.old.task }
 {
-    match operation.task {
-        Task::Keep(place, frame) => operation.stored = hold.keep(place, frame),
+    operation.stored = match operation.task {
+        Task::Keep(place, frame) => hold.keep(place, frame),
         Task::Drop(place) => {
             hold.drop(place);
-            operation.stored = false;
+            false // a drop stores nothing
         }
-    }
+    };
 }
 
 // Empties the hold, performs the operations in their order, and sets in each whether it stored a frame.
+#[tactic(auto, using(crate::proofs::Turns::law_more, crate::proofs::Turns::told_more, crate::proofs::Turns::tasks_same))]
 pub fn perform<H: Hold>(hold: &mut H, operations: &mut [Operation<'_>])
     ensures law { Law (length (H.cells hold.old)) (H.most hold.old) (told [] operations.new) (H.cells hold.new) }
     ensures most_unchanged { H.most hold.new ≡ H.most hold.old }
@@ -47,6 +49,7 @@ pub fn perform<H: Hold>(hold: &mut H, operations: &mut [Operation<'_>])
 }
 
 // The law leaves no answer open.
+#[tactic(auto, using(crate::proofs::Laws::decided))]
 pub fn law_decides()
     ensures answers_decided { Decided }
 {}

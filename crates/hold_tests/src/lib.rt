@@ -1,4 +1,5 @@
-// Scenarios that a hold has to pass, run on the three holds.
+// Scenarios that a hold has to pass, run on the three holds. Loops go by the number of a place, which is what a hold's calls take, and
+// lend the changing hold to one call after the other, which a closure of an iterator would have to keep.
 #![tactic(auto)]
 
 #[cfg(test)]
@@ -104,13 +105,9 @@ mod tests {
         right
     }
 
+    // Whether each of the four places is in the order, and so each once.
     fn differ(order: &[usize; 4]) -> bool {
-        order[0] != order[1]
-            && order[0] != order[2]
-            && order[0] != order[3]
-            && order[1] != order[2]
-            && order[1] != order[3]
-            && order[2] != order[3]
+        (0..4usize).all(|place| order.contains(&place))
     }
 
     // Keeps the frame at each place in turn, and tells how many places took it.
@@ -151,11 +148,10 @@ mod tests {
 
     // Whether the bytes are so many of one value, and then all of another.
     fn reads(bytes: &[u8], front: usize, first: u8, then: u8) -> bool {
-        let mut right = true;
-        for (i, byte) in bytes.iter().enumerate() {
-            right = *byte == (if i < front { first } else { then }) && right;
-        }
-        right
+        bytes
+            .iter()
+            .enumerate()
+            .all(|(i, byte)| *byte == if i < front { first } else { then })
     }
 
     // A copy writes the frame and nothing behind it, and an output that is one byte short is left as it is.
@@ -244,6 +240,7 @@ mod tests {
         right
     }
 
+    // As for the striped hold, over another memory.
     #[test]
     fn packed_places(rt: HostRuntime) -> Result<(), Fail> {
         let heap = rt.alloc();
@@ -349,5 +346,8 @@ mod tests {
         assert_eq!(rt; table.get(2), Some(8));
         assert_eq!(rt; table.remove(2), Some(8));
         assert_eq!(rt; table.remove(2), None);
+        table.entries_mut().fill(Some(5));
+        assert!(rt; table.count() == 3);
+        assert_eq!(rt; table.get(0), Some(5));
     }
 }

@@ -4,18 +4,18 @@
 mod options;
 mod told;
 
-use frame::arrival::read_message;
+use frame::arrival::{Message, read_message};
+use frame::faults::LineFault;
 use options::{Options, read_options};
 use std::io::{BufRead, BufReader, Read};
 use std::process::ExitCode;
 use std::{fs, io};
-use told::{Tally, tell_message, tell_refusal};
+use told::Tally;
 
-// What went wrong has been told on standard error, so a failure says no more.
+// What went wrong has been told on standard error, so a failure says no more. (ticket ends likewise; a program is a crate of its own.)
 fn main(rt: HostRuntime) -> ExitCode {
     match run(&rt) {
-        Ok(true) => ExitCode::SUCCESS,
-        Ok(false) => ExitCode::FAILURE,
+        Ok(status) => status,
         Err(e) => {
             let _told = eprintln!(rt; "inspect: {e}").is_ok();
             ExitCode::FAILURE
@@ -23,52 +23,33 @@ fn main(rt: HostRuntime) -> ExitCode {
     }
 }
 
-// Whether all frames could be read; if not, standard error has been told why.
-fn run(rt: &HostRuntime) -> io::Result<bool> {
+// A failure where a frame could not be read; standard error has been told why.
+fn run(rt: &HostRuntime) -> io::Result<ExitCode> {
     let Some(options) = read_options(rt)? else {
         eprintln!(rt; "inspect: the call is not understood")?;
         usage(rt)?;
-        return Ok(false);
+        return Ok(ExitCode::FAILURE);
     };
     if options.help {
         usage(rt)?;
-        return Ok(true);
+        return Ok(ExitCode::SUCCESS);
     }
-    let mut tally = Tally::new();
-    if options.files.len() == 0 {
-        inspect_lines(
-            rt,
-            &options,
-            &mut tally,
-            BufReader::new(rt.alloc(), rt.stdin())?,
-        )?;
+    let mut inspector = Inspector {
+        rt,
+        options: &options,
+        tally: Tally::new(rt.alloc()),
+    };
+    if options.files.is_empty() {
+        inspector.lines(rt.stdin())?;
     }
     for name in options.files.iter() {
-        if let Err(e) = inspect_file(rt, &options, &mut tally, name.as_str()) {
+        if let Err(e) = inspector.file(name.as_str()) {
             eprintln!(rt; "inspect: cannot read {name}: {e}")?;
-            return Ok(false);
+            return Ok(ExitCode::FAILURE);
         }
     }
-    tally.tell(rt)?;
-    Ok(true)
-}
-
-fn inspect_file(
-    rt: &HostRuntime,
-    options: &Options,
-    tally: &mut Tally,
-    name: &str,
-) -> io::Result<()> {
-    if options.whole {
-        let frame = fs::read(rt, name)?;
-        return inspect_frame(rt, options, tally, &frame);
-    }
-    inspect_lines(
-        rt,
-        options,
-        tally,
-        BufReader::new(rt.alloc(), fs::open(rt, name)?)?,
-    )
+    inspector.tally.tell(rt)?;
+    Ok(ExitCode::SUCCESS)
 }
 
 fn usage(rt: &HostRuntime) -> io::Result<()> {
@@ -80,40 +61,43 @@ fn usage(rt: &HostRuntime) -> io::Result<()> {
     eprintln!(rt; "The member is 7999 and the circle 600001-999999 unless they are given.")
 }
 
-// One frame a line; a line ends at LF, and a CR before it is a byte of the frame.
-fn inspect_lines<R: Read + Drop>(
-    rt: &HostRuntime,
-    options: &Options,
-    tally: &mut Tally,
-    input: BufReader<R>,
-) -> io::Result<()> {
-    let mut input = input;
-    let mut line = Vec::new(rt.alloc());
-    for _ in 0..u64::MAX {
-        line.clear();
-        if input.read_until(b'\n', &mut line)? == 0 {
-            break;
-        }
-        if line.last().copied() == Some(b'\n') {
-            line.pop();
-        }
-        inspect_frame(rt, options, tally, &line)?;
-    }
-    Ok(())
+// Tells frame after frame, and counts them.
+#[derive(Drop)]
+struct Inspector<'a> {
+    rt: &'a HostRuntime,
+    options: &'a Options,
+    tally: Tally,
 }
 
-fn inspect_frame(
-    rt: &HostRuntime,
-    options: &Options,
-    tally: &mut Tally,
-    frame: &[u8],
-) -> io::Result<()> {
-    let message = match read_message(frame) {
-        Ok(message) => message,
-        Err(fault) => return tell_refusal(rt, tally, frame, fault.refusal()),
-    };
-    match message.arrive_at(options.member, options.circle) {
-        Ok(_) => tell_message(rt, tally, &message),
-        Err(fault) => tell_refusal(rt, tally, frame, fault.refusal()),
+impl Inspector<'_> {
+    fn file(&mut self, name: &str) -> io::Result<()> {
+        if self.options.whole {
+            self.frame(&fs::read(self.rt, name)?)
+        } else {
+            self.lines(fs::open(self.rt, name)?)
+        }
     }
+
+    // One frame a line; a line ends at LF, and a CR before it is a byte of the frame.
+    fn lines<R: Read + Drop>(&mut self, input: R) -> io::Result<()> {
+        let heap = self.rt.alloc();
+        for line in BufReader::new(heap, input)?.split(heap, b'\n') {
+            self.frame(&line?)?;
+        }
+        Ok(())
+    }
+
+    fn frame(&mut self, frame: &[u8]) -> io::Result<()> {
+        match take(frame, self.options) {
+            Ok(message) => self.tally.tell_message(self.rt, &message),
+            Err(fault) => self.tally.tell_refusal(self.rt, frame, fault.into()),
+        }
+    }
+}
+
+// The message of a frame that would be taken.
+fn take(frame: &[u8], options: &Options) -> Result<Message, LineFault> {
+    let message = read_message(frame)?;
+    message.arrive_at(options.member, options.circle)?;
+    Ok(message)
 }

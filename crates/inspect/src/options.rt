@@ -1,7 +1,7 @@
 // The words of the call.
 use frame::arrival::Circle;
 use frame::kinds::Osn;
-use std::alloc::AllocError;
+use std::env::Args;
 use std::{env, io};
 
 #[derive(Drop)]
@@ -28,68 +28,35 @@ pub fn read_options(rt: &HostRuntime) -> io::Result<Option<Options>> {
     };
     let mut words = env::args(rt)?;
     let _program = words.next();
+    // an option takes the word behind it, so the words are not gone through by `for`; a `while let` would owe a proof that words end
     for _ in 0..u64::MAX {
         let Some(word) = words.next() else {
             break;
         };
-        let understood = match word.as_str() {
-            "--help" | "-h" => set(&mut options.help),
-            "--whole" => set(&mut options.whole),
-            "--member" => set_member(&mut options.member, words.next()),
-            "--circle" => set_circle(&mut options.circle, words.next()),
-            _ => add_file(&mut options.files, word)?,
-        };
-        if !understood {
+        if !word.as_str().starts_with('-') {
+            options.files.push(word)?;
+        } else if set_option(&mut options, word.as_str(), &mut words).is_none() {
             return Ok(None);
         }
     }
     Ok(Some(options))
 }
 
-fn set(option: &mut bool) -> bool {
-    *option = true;
-    true
-}
-
-// A word that begins with a dash and is no option names no file.
-fn add_file(files: &mut Vec<String>, word: String) -> Result<bool, AllocError> {
-    if word.as_str().starts_with('-') {
-        return Ok(false);
+// Sets what an option says; nothing where it is none, or the word behind it is not understood.
+fn set_option(options: &mut Options, option: &str, words: &mut Args) -> Option<()> {
+    match option {
+        "--help" | "-h" => options.help = true,
+        "--whole" => options.whole = true,
+        "--member" => options.member = read_member(words.next()?.as_str())?,
+        "--circle" => options.circle = read_circle(words.next()?.as_str())?,
+        _ => return None,
     }
-    files.push(word)?;
-    Ok(true)
-}
-
-fn set_member(member: &mut u16, word: Option<String>) -> bool {
-    let Some(word) = word else {
-        return false;
-    };
-    match read_member(word.as_str()) {
-        Some(value) => {
-            *member = value;
-            true
-        }
-        None => false,
-    }
-}
-
-fn set_circle(circle: &mut Circle, word: Option<String>) -> bool {
-    let Some(word) = word else {
-        return false;
-    };
-    match read_circle(word.as_str()) {
-        Some(value) => {
-            *circle = value;
-            true
-        }
-        None => false,
-    }
+    Some(())
 }
 
 // A member has a number of at most four digits.
 fn read_member(text: &str) -> Option<u16> {
-    let member = text.parse::<u16>().ok()?;
-    if member > 9999 { None } else { Some(member) }
+    text.parse::<u16>().ok().filter(|member| *member <= 9999)
 }
 
 // FIRST-LAST, within 1 to 999999.
@@ -97,10 +64,7 @@ fn read_circle(text: &str) -> Option<Circle> {
     let (first, last) = text.split_once('-')?;
     let first = first.parse::<u32>().ok()?;
     let last = last.parse::<u32>().ok()?;
-    if first < 1 || first > last || last > 999999 {
-        return None;
-    }
-    Some(Circle {
+    (1 <= first && first <= last && last <= 999999).then_some(Circle {
         first: Osn(first),
         last: Osn(last),
     })

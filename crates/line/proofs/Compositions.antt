@@ -1,5 +1,5 @@
 -- What the writer of trades answers for a posting.
-use Rattle.std.proofs.Common.{◌≡◌, ℕ, ◌+◌, ◌≤◌, true, false, eqb, leb, List, ◌++◌, length, take, drop, is_some, Some, None, Ok, Err, Option, sym, refl, ap, ◌∙◌, ap₂, arith}
+use Rattle.std.proofs.Common.{◌≡◌, ℕ, ◌+◌, ◌≤◌, true, false, eqb, leb, List, ◌++◌, length, take, drop, is_some, Some, None, Ok, Err, Option, sym, refl, ap, ◌∙◌, ap₂, arith, Result, MatchResult, IsErrAnd, subst}
 use lib.Seq.{take-append_seam}
 use Rattle.notation.specs.declared.refusals.FieldFault.{FieldFault}
 use Rattle.notation.specs.declared.refusals.Why.{Why}
@@ -12,6 +12,7 @@ use Rattle.std.proofs.lemmas.Bool.{le-leb, lt-leb, ne_eqb, or_from}
 use Rattle.book.proofs.Ledgers.{free}
 use Rattle.book.specs.Ledger.{Ledger, entered, entry_at, next_isn, no_place, used_up, with_next}
 use Rattle.frame.specs.Writing.{frame_text, output_after, unwritable, wrote}
+use Rattle.frame.specs.declared.faults.LineFault.{LineFault}
 use Rattle.frame.specs.declared.kinds.Isn.{Isn}
 use Rattle.frame.specs.declared.kinds.Kind.TheVariants.{Trade}
 use Rattle.frame.specs.declared.kinds.Mark.TheVariants.{Fresh}
@@ -33,6 +34,13 @@ composed_fault d b a (Contents e) long w = (e, refl, (w.0, w.1))
 composed_fault d b a Short long w =
     let short : length (whole d) ≤ 320 = whole_short d (checked_fine d w.0) in
     absurd (let z : ⊥ = omega (arith, w.1) in z)
+
+-- the writer's answer, its fault told as one of the call
+pub composed_mapped : {P : WriteFault → LineFault → Type 0} (d : Deal) (b a : List ℕ) (r : Result ℕ WriteFault) (q : Result ℕ LineFault) → 320 ≤ length b → length a ≡ length b → Wrote table d b a r →
+    MatchResult r (λ n. q ≡ Ok n) (λ y. IsErrAnd q (P y)) → ((y : WriteFault) (e : LineFault) → P y e → e ≡ posting_fault y) → Composed d a q
+composed_mapped d b a (Ok n) q long len w m told = subst (Composed d a) (sym m) (composed_text d b a n w len)
+composed_mapped d b a (Err y) (Ok n) long len w m told = absurd m
+composed_mapped d b a (Err y) (Err e) long len w m told = subst (λ x. Composed d a (Err x)) (sym (told y e m)) (composed_fault d b a y long w)
 
 same_fault : (e f : FieldFault) → e.why ≡ f.why → e.offset ≡ 0 → f.offset ≡ 0 → e ≡ f
 same_fault e f p q r = λ i. record { why = p i; offset = (q ∙ sym r) i }

@@ -1,5 +1,5 @@
 -- Frames that a line writes into an output.
-use Rattle.std.proofs.Common.{◌≡◌, ℕ, ◌+◌, ◌-◌, ◌<◌, ◌≤◌, Bool, true, false, cond, ltb, leb, List, ◌∷◌, ◌++◌, length, take, drop, Some, None, Ok, Err, Result, sym, refl, ap, ◌∙◌, ap₂, ⊎_elim, arith, length-append}
+use Rattle.std.proofs.Common.{◌≡◌, ℕ, ◌+◌, ◌-◌, ◌<◌, ◌≤◌, Bool, true, false, cond, ltb, leb, List, ◌∷◌, ◌++◌, length, take, drop, Some, None, Ok, Err, Result, sym, refl, ap, ◌∙◌, ap₂, ⊎_elim, arith, length-append, MatchResult, IsErrAnd}
 use Rattle.std.proofs.lemmas.Bool.{le-leb, lt-leb, le-ltb, lt-ltb, cases_lt, cond-true, cond-false, leb-false, cases_Bool}
 use Rattle.frame.specs.Texts.{range_text, range_written}
 use Rattle.frame.specs.Writing.{frame_text, head_text, output_after, unwritable, wrote}
@@ -88,3 +88,12 @@ was_written false n k e = absurd (let z : ◌≡◌ {A = ℕ} 0 1 = cc in omega 
 pub was_short : (b : Bool) (e : LineFault) (k : ℕ) → Err e ≡ cond {A = Result ℕ LineFault} b (Ok k) (Err Short) → (b ≡ false) × (e ≡ Short)
 was_short true e k h = absurd (let z : ◌≡◌ {A = ℕ} 0 1 = cc in omega arith)
 was_short false e k h = (refl, cc)
+
+-- what stayed where a fault would have been told as another
+pub ok_kept : {T E D : Type 0} (P : E → D → Type 0) (r : Result T E) (m : Result T D) (t : T) → MatchResult r (λ x. m ≡ Ok x) (λ e. IsErrAnd m (P e)) → m ≡ Ok t → Ok t ≡ r
+ok_kept P (Ok x) m t c e =
+    let q : ◌≡◌ {A = Result _ _} (Ok t) (Ok x) = sym e ∙ c in
+    let z : t ≡ x = cc in
+    ap Ok z
+ok_kept P (Err y) (Ok z) t c e = absurd c
+ok_kept P (Err y) (Err z) t c e = absurd (let o : ◌≡◌ {A = ℕ} 0 1 = cc in omega arith)

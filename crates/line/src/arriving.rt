@@ -1,7 +1,6 @@
 // An arriving frame: delivered if it is due, parked or noted if it is early, and else a repetition.
 ghost use Rattle.std.specs.Prelude.{◌≡◌, ◌%◌, ◌≤◌, length, IfOk, if◌then◌else◌, Some, OnErr, slice_set};
 ghost use Rattle.book.specs.Ledger.{has};
-ghost use Rattle.book.specs.View.{ledger};
 ghost use Rattle.line.specs.Notices.{judgement};
 ghost use Rattle.line.specs.Settings.{first, last};
 ghost use Rattle.line.specs.Steps.{arrival_ledger, arrival_result, arrival_state, parks};
@@ -32,13 +31,9 @@ impl Line {
         ensures most_unchanged { H.most hold.new ≡ H.most hold.old }
     {
         let places = hold.places();
-        if number as usize >= self.next.0 as usize + places {
-            return false;
-        }
-        if places == 0 {
-            return false;
-        }
-        hold.keep(number as usize % places, frame)
+        places > 0
+            && (number as usize) < self.next.0 as usize + places
+            && hold.keep(number as usize % places, frame)
     }
 
     // Takes an arriving frame.
@@ -49,20 +44,20 @@ impl Line {
         book: &mut Book<'_>,
         frame: &[u8],
     ) -> Result<Arrived, LineFault>
-        ensures answer { result ≡ arrival_result (H.most hold.old) (view self.old (H.cells hold.old)) (has (ledger book.old)) (judgement self.old.settings frame.now) frame.now }
+        ensures answer { result ≡ arrival_result (H.most hold.old) (view self.old (H.cells hold.old)) (has book.old) (judgement self.old.settings frame.now) frame.now }
         ensures line_and_hold_after { view self.new (H.cells hold.new) ≡ arrival_state self.old.settings (H.most hold.old) (view self.old (H.cells hold.old)) (judgement self.old.settings frame.now) frame.now }
-        ensures book_after { ledger book.new ≡ arrival_ledger (view self.old (H.cells hold.old)) (ledger book.old) (judgement self.old.settings frame.now) }
+        ensures book_after { book.new ≡ arrival_ledger (view self.old (H.cells hold.old)) book.old (judgement self.old.settings frame.now) }
         ensures set_up_unchanged { self.new.settings ≡ self.old.settings }
         ensures most_unchanged { H.most hold.new ≡ H.most hold.old }
-        ensures refusal_changes_nothing { OnErr result ((view self.new (H.cells hold.new) ≡ view self.old (H.cells hold.old)) × (ledger book.new ≡ ledger book.old)) }
+        ensures refusal_changes_nothing { OnErr result ((view self.new (H.cells hold.new) ≡ view self.old (H.cells hold.old)) × (book.new ≡ book.old)) }
     {
         let arrival = self.judge_frame(frame)?;
         let number = arrival.number;
-        if number.0 < self.next.0 || self.has_held(hold, number.0) {
+        if number < self.next || self.has_held(hold, number.0) {
             return Ok(Arrived::Repeated(number));
         }
         let top = self.top.0.max(number.0 + 1);
-        if number.0 == self.next.0 {
+        if number == self.next {
             self.top = Osn(top);
             self.next = Osn(number.0 + 1);
             self.settle_wait(hold, true);

@@ -1,5 +1,6 @@
 // The line: six calls that bring the exchange's numbered messages to the bank in order, ask for what is lost,
-// and post our trades.
+// and post our trades. What a call leaves as it was (the set-up, the most bytes of the hold, all of it at a refusal) is said in each
+// contract, since a type's invariant cannot tie what is after a call to what was before.
 #![tactic(auto)]
 
 ghost use Rattle.std.specs.Prelude.{◌+◌, ◌≤◌};
@@ -16,7 +17,7 @@ pub mod telling;
 pub mod waiting;
 
 // What set-up fixes for the life of a line.
-#[derive(Clone, Copy)]
+#[derive(Clone, Copy, PartialEq, Eq, Debug)]
 pub struct Settings {
     // the member whose frames the line takes, 0 to 9999
     pub member: u16,
@@ -28,16 +29,27 @@ pub struct Settings {
     pub wait: u16,
 }
 
-// A line. `next` is the number due, and `top` is one above the highest number seen.
+// The wait at a lost number: the try, the ticks that are left of it, and whether a fetch is due in it. It holds proofs beside its
+// numbers, and nothing compares or prints it.
+#[derive(Clone, Copy)]
+struct Wait {
+    tries: u8,
+    left: u16,
+    fetch_due: bool,
+    ghost counts_from_one: { 1 ≤ tries },
+    ghost nine_at_most: { tries ≤ 9 },
+    ghost ticks_at_most_600: { left ≤ 600 },
+}
+
+// A line. Its calls take line, hold and book apart, and an open session: a line outlives its sessions, and what a call only asks it
+// borrows. `next` is the number due, and `top` is one above the highest number seen.
 #[derive(Drop)]
 pub struct Line {
     settings: Settings,
     next: Osn,
     top: Osn,
-    // the try of the running wait, and the ticks that are left of it; both 0 without a wait
-    tries: u8,
-    left: u16,
-    fetch_due: bool,
+    // at the number due, if it is lost
+    wait: Option<Wait>,
     ghost member_of_four_digits: { settings.member ≤ 9999 },
     ghost circle_of_six_digits: { settings.circle.last.0 ≤ 999999 },
     ghost one_try_at_least: { 1 ≤ settings.tries },
@@ -47,12 +59,10 @@ pub struct Line {
     ghost first_to_next: { settings.circle.first.0 ≤ next.0 },
     ghost next_to_top: { next.0 ≤ top.0 },
     ghost top_to_last: { top.0 ≤ settings.circle.last.0 + 1 },
-    ghost tries_small: { tries ≤ 9 },
-    ghost left_small: { left ≤ 600 },
 }
 
 // A message brought in its turn.
-#[derive(Clone, Copy)]
+#[derive(Clone, Copy, PartialEq, Eq, Debug)]
 pub struct Delivery {
     pub number: Osn,
     pub kind: Kind,
@@ -65,7 +75,7 @@ pub struct Delivery {
 }
 
 // What became of an arriving frame.
-#[derive(Clone, Copy)]
+#[derive(Clone, Copy, PartialEq, Eq, Debug)]
 pub enum Arrived {
     // it is the one due
     Delivered(Delivery),
@@ -78,14 +88,14 @@ pub enum Arrived {
 }
 
 // A trade that was posted under our number, and the bytes of its frame.
-#[derive(Clone, Copy)]
+#[derive(Clone, Copy, PartialEq, Eq, Debug)]
 pub struct Posted {
     pub isn: Isn,
     pub size: usize,
 }
 
 // How a line stands.
-#[derive(Clone, Copy)]
+#[derive(Clone, Copy, PartialEq, Eq, Debug)]
 pub struct Status {
     pub next: Osn,
     pub top: Osn,

@@ -1,6 +1,5 @@
 // Posting a trade: its text in a 511 frame, under the next of our numbers.
 ghost use Rattle.std.specs.Prelude.{◌≡◌, ◌≤◌, length, OnErr};
-ghost use Rattle.book.specs.View.{ledger};
 ghost use Rattle.line.specs.Composing.{Composed, PostedAs, posting_fault};
 ghost use Rattle.trade.specs.Views.{view as deal_of};
 
@@ -13,10 +12,10 @@ use frame::write::{Heading, write_frame};
 use trade::reading::Trade;
 use trade::writing::WriteFault;
 
-// Room for the longest text of a trade.
+// Room for the longest text of a trade, which is written into an array, since nothing is allocated.
 const TEXT_ROOM: usize = 320;
 
-// What a trade's writer refuses, as a fault of the call.
+// What a trade's writer refuses, as a fault of the call. A function, since neither type is this crate's to give a From.
 fn fault_of(fault: WriteFault) -> LineFault
     ensures same_refusal { result ≡ posting_fault fault }
 {
@@ -31,10 +30,7 @@ fn compose(trade: &Trade<'_>, text: &mut [u8]) -> Result<usize, LineFault>
     requires { 320 ≤ length text.old }
     ensures composed { Composed (deal_of trade.now) text.new result }
 {
-    match trade.write(text) {
-        Ok(size) => Ok(size),
-        Err(fault) => Err(fault_of(fault)),
-    }
+    trade.write(text).map_err(fault_of)
 }
 
 impl Line {
@@ -47,8 +43,8 @@ impl Line {
         trade: &Trade<'_>,
         out: &mut [u8],
     ) -> Result<Posted, LineFault>
-        ensures posted_or_refused { PostedAs self.now.settings.member (deal_of trade.now) (ledger book.old) out.old result (ledger book.new) out.new }
-        ensures refusal_changes_nothing { OnErr result ((ledger book.new ≡ ledger book.old) × (out.new ≡ out.old)) }
+        ensures posted_or_refused { PostedAs self.now.settings.member (deal_of trade.now) book.old out.old result book.new out.new }
+        ensures refusal_changes_nothing { OnErr result ((book.new ≡ book.old) × (out.new ≡ out.old)) }
     {
         let mut text = [0u8; TEXT_ROOM];
         let size = compose(trade, &mut text)?;

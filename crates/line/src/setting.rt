@@ -1,6 +1,5 @@
 // Setting a line up.
 ghost use Rattle.book.specs.Ledger.{blank};
-ghost use Rattle.book.specs.View.{entries_of, ledger};
 ghost use Rattle.line.specs.Settings.{Ranges};
 ghost use Rattle.line.specs.Steps.{start};
 ghost use Rattle.line.specs.View.{view};
@@ -38,9 +37,9 @@ pub fn set_up<H: Hold>(
 ) -> Result<Line, LineFault>
     ensures in_range { MatchResult result (λ _. Ranges settings) (λ e. (e ≡ Setting) × (Ranges settings → ⊥)) }
     ensures line_at_the_first { IfOk result (λ line. (line.settings ≡ settings) × (view line (H.cells hold.new) ≡ start settings (length (H.cells hold.old)))) }
-    ensures book_emptied { OnOk result (ledger book.new ≡ blank (length (entries_of book.old))) }
+    ensures book_emptied { OnOk result (book.new ≡ blank (length book.old.entries)) }
     ensures most_unchanged { H.most hold.new ≡ H.most hold.old }
-    ensures refusal_changes_nothing { OnErr result ((H.cells hold.new ≡ H.cells hold.old) × (ledger book.new ≡ ledger book.old)) }
+    ensures refusal_changes_nothing { OnErr result ((H.cells hold.new ≡ H.cells hold.old) × (book.new ≡ book.old)) }
 {
     settings.check()?;
     drop_all(hold);
@@ -50,8 +49,6 @@ pub fn set_up<H: Hold>(
         settings,
         next: first,
         top: first,
-        tries: 0,
-        left: 0,
-        fetch_due: false,
+        wait: None,
     })
 }

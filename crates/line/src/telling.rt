@@ -1,5 +1,4 @@
 // How a line stands, with its hold and its book.
-ghost use Rattle.book.specs.View.{ledger};
 ghost use Rattle.line.specs.Steps.{status_of};
 ghost use Rattle.line.specs.View.{view};
 ghost use Rattle.std.specs.Prelude.{◌≡◌};
@@ -12,13 +11,13 @@ use hold::Hold;
 impl Line {
     // Tells how the line stands. It borrows all three, so it changes none of them: a question never moves a wait.
     pub fn status<H: Hold>(&self, _session: &Open, hold: &H, book: &Book<'_>) -> Status
-        ensures answer { result ≡ status_of (view self.now (H.cells hold.now)) (ledger book.now) }
+        ensures answer { result ≡ status_of (view self.now (H.cells hold.now)) book.now }
     {
         Status {
             next: self.next,
             top: self.top,
-            tries: self.tries,
-            left: self.left,
+            tries: self.wait.map_or(0, |wait| wait.tries),
+            left: self.wait.map_or(0, |wait| wait.left),
             taken: hold.taken(),
             account: book.account(),
         }

@@ -1,10 +1,10 @@
 // The wait at a lost number: what is held, the ticks, the run that is missing, and the fetch that asks for it.
-ghost use Rattle.std.specs.Prelude.{◌≡◌, ◌<◌, ◌≤◌, ◌++◌, length, drop, if◌then◌else◌, Ok, Err, OnErr, nat_le};
+ghost use Rattle.std.specs.Prelude.{◌≡◌, ◌<◌, ◌≤◌, ◌++◌, true, length, drop, if◌then◌else◌, Ok, Err, OnErr, nat_le};
 ghost use Rattle.line.specs.Steps.{fetch_output, fetch_result, fetch_state, holds, retrieval, run_end, wait_settled, tick_result, tick_state, wait_of};
 ghost use Rattle.line.specs.View.{view};
 ghost use Rattle.frame.specs.declared.faults.LineFault.TheVariants.{Short};
 
-use crate::Line;
+use crate::{Line, Wait};
 use frame::faults::LineFault;
 use frame::kinds::{Kind, Mark, Osn};
 use frame::range::{Range, write_range};
@@ -13,7 +13,7 @@ use frame::write::{Heading, write_frame};
 use hold::Hold;
 
 // A run of missing numbers goes at most this far past its first, so that a retrieval asks for at most 100.
-const RUN_PAST_FIRST: usize = 99;
+const RUN_PAST_FIRST: u32 = 99;
 
 impl Line {
     // Whether the number is held: due or above, in reach of the hold, and its place is taken.
@@ -21,16 +21,9 @@ impl Line {
         ensures answer { result ≡ holds (view self.now (H.cells hold.now)) number }
     {
         let places = hold.places();
-        if number < self.next.0 {
-            return false;
-        }
-        if (number - self.next.0) as usize >= places {
-            return false;
-        }
-        match hold.look(number as usize % places) {
-            Some(_) => true,
-            None => false,
-        }
+        number >= self.next.0
+            && ((number - self.next.0) as usize) < places
+            && hold.look(number as usize % places).is_some()
     }
 
     // How many ticks a try has.
@@ -41,21 +34,31 @@ impl Line {
         self.settings.wait
     }
 
+    // The start of a try: all its ticks are left, and a fetch is due.
+    fn begin_try(&self, number: u8) -> Wait
+        requires from_one { 1 ≤ number }
+        requires to_nine { number ≤ 9 }
+        ensures try_number { result.tries ≡ number }
+        ensures ticks { result.left ≡ wait_of self.now.settings number }
+        ensures fetch_due { result.fetch_due ≡ true }
+    {
+        Wait {
+            tries: number,
+            left: self.wait_of(number),
+            fetch_due: true,
+        }
+    }
+
     // Begins a wait, keeps it running or ends it, as next, top and the hold have it. Where next moved, a wait is new.
     pub(crate) fn settle_wait<H: Hold>(&mut self, hold: &H, moved: bool)
         ensures line_after { view self.new (H.cells hold.now) ≡ wait_settled self.old.settings moved (view self.old (H.cells hold.now)) }
         ensures set_up_unchanged { self.new.settings ≡ self.old.settings }
     {
-        let due = self.next.0;
-        let waits = due < self.top.0 && !self.has_held(hold, due);
+        let waits = self.next < self.top && !self.has_held(hold, self.next.0);
         if !waits {
-            self.tries = 0;
-            self.left = 0;
-            self.fetch_due = false;
-        } else if moved || self.tries == 0 {
-            self.tries = 1;
-            self.left = self.wait_of(1);
-            self.fetch_due = true;
+            self.wait = None;
+        } else if moved || self.wait.is_none() {
+            self.wait = Some(self.begin_try(1));
         }
     }
 
@@ -66,15 +69,14 @@ impl Line {
         ensures from_next { self.now.next.0 ≤ result }
         ensures below_top { result < self.now.top.0 }
     {
-        let mut last = self.next.0;
-        for step in 0..RUN_PAST_FIRST {
-            let number = last + 1;
-            if number >= self.top.0 || self.has_held(hold, number) {
-                break;
+        let first = self.next.0;
+        let end = self.top.0.min(first + RUN_PAST_FIRST + 1);
+        for number in first + 1..end {
+            if self.has_held(hold, number) {
+                return number - 1;
             }
-            last = number;
         }
-        last
+        end - 1
     }
 
     // One tick of the clock. The last tick of the last try reports the run missing, and next goes past it.
@@ -83,17 +85,17 @@ impl Line {
         ensures line_after { view self.new (H.cells hold.now) ≡ tick_state self.old.settings (view self.old (H.cells hold.now)) }
         ensures set_up_unchanged { self.new.settings ≡ self.old.settings }
     {
-        if self.tries == 0 || self.top.0 <= self.next.0 {
+        let mut wait = self.wait?;
+        if self.top <= self.next {
             return None;
         }
-        if self.left > 1 {
-            self.left -= 1;
+        if wait.left > 1 {
+            wait.left -= 1;
+            self.wait = Some(wait);
             return None;
         }
-        if self.tries < self.settings.tries {
-            self.tries += 1;
-            self.left = self.wait_of(self.tries);
-            self.fetch_due = true;
+        if wait.tries < self.settings.tries {
+            self.wait = Some(self.begin_try(wait.tries + 1));
             return None;
         }
         let from = self.next;
@@ -119,7 +121,11 @@ impl Line {
         ensures set_up_unchanged { self.new.settings ≡ self.old.settings }
         ensures refusal_changes_nothing { OnErr result ((view self.new (H.cells hold.now) ≡ view self.old (H.cells hold.now)) × (out.new ≡ out.old)) }
     {
-        if !self.fetch_due || self.top.0 <= self.next.0 {
+        let mut wait = self
+            .wait
+            .filter(|wait| wait.fetch_due)
+            .ok_or(LineFault::NoFetchDue)?;
+        if self.top <= self.next {
             return Err(LineFault::NoFetchDue);
         }
         let range = Range {
@@ -127,7 +133,8 @@ impl Line {
             to: Osn(self.last_of_run(hold)),
         };
         write_retrieval(out, self.settings.member, range)?;
-        self.fetch_due = false;
+        wait.fetch_due = false;
+        self.wait = Some(wait);
         Ok(range)
     }
 }
@@ -139,9 +146,7 @@ fn write_retrieval(out: &mut [u8], member: u16, range: Range) -> Result<(), Line
     ensures answer { result ≡ (if nat_le 36 (length out.old) then Ok tt else Err Short) }
     ensures output { out.new ≡ (if nat_le 36 (length out.old) then retrieval member range.from.0 range.to.0 ++ drop 36 out.old else out.old) }
 {
-    let Ok(text) = write_range(range) else {
-        return Err(LineFault::Number);
-    };
+    let text = write_range(range).map_err(|_| LineFault::Number)?;
     write_frame(
         out,
         Heading {

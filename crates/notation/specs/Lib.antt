@@ -1,3 +1,4 @@
 pub mod Classes
 pub mod Digits
 pub mod Refusals
+pub mod Words

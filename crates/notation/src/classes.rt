@@ -30,21 +30,21 @@ impl Class {
 pub fn is_digit(b: u8) -> bool
     ensures digits_alone { result ≡ is_digit b }
 {
-    b >= b'0' && b <= b'9'
+    b.is_ascii_digit()
 }
 
 pub fn is_capital(b: u8) -> bool
     ensures capitals_alone { result ≡ is_capital b }
 {
-    b >= b'A' && b <= b'Z'
+    b.is_ascii_uppercase()
 }
 
 pub fn is_free(b: u8) -> bool
     ensures free_bytes_alone { result ≡ is_free b }
 {
-    match b {
-        b'0'..=b'9' | b'A'..=b'Z' | b'a'..=b'z' => true,
-        b' ' | b'/' | b'-' | b'?' | b':' | b'(' | b')' | b'.' | b',' | b'\'' | b'+' => true,
-        _ => false,
-    }
+    b.is_ascii_alphanumeric()
+        || matches!(
+            b,
+            b' ' | b'/' | b'-' | b'?' | b':' | b'(' | b')' | b'.' | b',' | b'\'' | b'+'
+        )
 }

@@ -1,5 +1,6 @@
-// What every format shares: refusals with number, layer and offset, and classes of bytes.
+// What every format shares: refusals with number, layer and offset, classes of bytes, and parts of what is read.
 #![tactic(auto)]
 
 pub mod classes;
+pub mod part;
 pub mod refusals;

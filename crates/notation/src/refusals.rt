@@ -1,8 +1,11 @@
 // Refusals. Each says three things: a number, the layer that it comes from, and the byte where it stands.
-// A fault is a layer's own type; it goes up by `?`, and `refusal` tells it as number, layer and offset.
+// A fault is a layer's own type; it goes up by `?`, and as a `Refusal` it is told as number, layer and offset.
 ghost use Rattle.notation.specs.Refusals.{field_refusal, text_refusal};
 ghost use Rattle.notation.specs.declared.refusals.TextFault.TheVariants.{Within};
-ghost use Rattle.std.specs.Prelude.{◌≡◌};
+ghost use Rattle.notation.specs.Words.{layer_words, meaning, refusal_words};
+ghost use Rattle.std.specs.Prelude.{◌≡◌, Some};
+
+use std::fmt;
 
 #[derive(Clone, Copy, PartialEq, Eq, Debug)]
 pub enum Layer {
@@ -12,11 +15,66 @@ pub enum Layer {
     Line,
 }
 
+impl fmt::Display for Layer {
+    ghost output = { λ l. Some (layer_words l) };
+
+    fn fmt<W: fmt::Write>(&self, f: &mut fmt::Formatter<W>) -> fmt::Result {
+        f.write_str(match self {
+            Layer::Frame => "frame",
+            Layer::Text => "text",
+            Layer::Field => "field",
+            Layer::Line => "line",
+        })
+    }
+}
+
+// What callers and operators are told. The number stays a number, since they know it as one; the faults are the enums.
 #[derive(Clone, Copy, PartialEq, Eq, Debug)]
 pub struct Refusal {
     pub number: u8,
     pub layer: Layer,
     pub offset: usize,
+}
+
+// As a person reads it: `16 (contents not of the notation), layer field, byte 23`.
+impl fmt::Display for Refusal {
+    ghost output = { λ r. Some (refusal_words r) };
+
+    fn fmt<W: fmt::Write>(&self, f: &mut fmt::Formatter<W>) -> fmt::Result {
+        let words = meaning(self.number);
+        write!(
+            f,
+            "{} ({words}), layer {}, byte {}",
+            self.number, self.layer, self.offset
+        )
+    }
+}
+
+// A refusal's number in words.
+fn meaning(number: u8) -> &'static str
+    ensures by_number { result.now ≡ meaning number }
+{
+    match number {
+        11 => "frame too short or too long",
+        12 => "header malformed",
+        13 => "type not taken",
+        14 => "length not true",
+        15 => "label missing or out of order",
+        16 => "contents not of the notation",
+        17 => "code not listed",
+        18 => "no such date or time",
+        19 => "pieces contradict",
+        20 => "output too short",
+        21 => "setting out of range",
+        22 => "request not known",
+        31 => "frame of another member",
+        32 => "number outside the circle",
+        33 => "number due not held",
+        34 => "no place in the book",
+        35 => "numbers used up",
+        36 => "no fetch due",
+        _ => "refused",
+    }
 }
 
 // What is wrong with a field's contents; of several faults the first in this order is told.
@@ -39,11 +97,11 @@ pub struct FieldFault {
     pub offset: usize,
 }
 
-impl FieldFault {
-    pub fn refusal(&self) -> Refusal
-        ensures as_numbered { result ≡ field_refusal self.now }
-    {
-        let number = match self.why {
+impl From<FieldFault> for Refusal {
+    ghost from_gives = { λ e r. r ≡ field_refusal e };
+
+    fn from(e: FieldFault) -> Refusal {
+        let number = match e.why {
             Why::Notation => 16,
             Why::Code => 17,
             Why::Moment => 18,
@@ -52,7 +110,7 @@ impl FieldFault {
         Refusal {
             number,
             layer: Layer::Field,
-            offset: self.offset,
+            offset: e.offset,
         }
     }
 }
@@ -65,17 +123,17 @@ pub enum TextFault {
     Within(FieldFault),
 }
 
-impl TextFault {
-    pub fn refusal(&self) -> Refusal
-        ensures as_numbered { result ≡ text_refusal self.now }
-    {
-        match self {
+impl From<TextFault> for Refusal {
+    ghost from_gives = { λ e r. r ≡ text_refusal e };
+
+    fn from(e: TextFault) -> Refusal {
+        match e {
             TextFault::Label(offset) => Refusal {
                 number: 15,
                 layer: Layer::Text,
-                offset: *offset,
+                offset,
             },
-            TextFault::Within(fault) => fault.refusal(),
+            TextFault::Within(fault) => Refusal::from(fault),
         }
     }
 }

@@ -1,24 +1,13 @@
 -- The spans once a gap is closed.
 use Rattle.std.proofs.Common.{◌≡◌, ℕ, zero, suc, ◌+◌, ◌-◌, ◌<◌, ◌≤◌, cond, leb, ◌⊎◌, List, [], ◌∷◌, map, length, get_or, take, drop, set, is_some, Some, None, Option, sym, refl, ap, ◌∙◌, ap₂, inl, inr, ⊎_elim, arith}
-use Rattle.std.proofs.lemmas.List.{drop-drop, set-get_or}
+use Rattle.std.proofs.lemmas.List.{drop-drop}
 use Rattle.std.proofs.lemmas.Bool.{le-leb, lt-leb, cases_lt, cond_both}
 use Rattle.packed.specs.declared.Span.{Span}
-use Rattle.packed.specs.Spans.{Spans, frame_in, cells_of, extent, total, Inside, Two, Apart, closed, lowered}
-use Rattle.packed.proofs.Parts.{part_same, closed_front, closed_back}
+use Rattle.packed.specs.Spans.{Spans, frame_in, cells_of, extent, total, Inside, Two, Apart, lowered}
+use Rattle.packed.proofs.Parts.{closed, part_same, closed_front, closed_back}
 use Rattle.packed.proofs.Spans.{Where, here, there, where_set, none_some}
 
 -- ---- one span
-
-pub lowered_not : (es : Spans) (k end n : ℕ) (s : Span) → get_or es k None ≡ Some s → s.start < end → es ≡ set es k (lowered end n (get_or es k None))
-lowered_not es k end n s e h =
-    let q : lowered end n (get_or es k None) ≡ get_or es k None =
-    ap (lowered end n) e ∙ ap (λ x. cond x (Some (record { start = s.start - n; len = s.len })) (Some s)) (lt-leb end s.start h) ∙ sym e in
-    sym (ap (set es k) q ∙ set-get_or es k None)
-
-pub lowered_none : (es : Spans) (k end n : ℕ) → get_or es k None ≡ None → es ≡ set es k (lowered end n (get_or es k None))
-lowered_none es k end n e =
-    let q : lowered end n (get_or es k None) ≡ get_or es k None = ap (lowered end n) e ∙ sym e in
-    sym (ap (set es k) q ∙ set-get_or es k None)
 
 -- every span ends at u at the latest, and the stretch from a to e is free: a span that starts before e ends at a at the latest
 abbrev pub Gap : ℕ → ℕ → ℕ → Spans → Type 0

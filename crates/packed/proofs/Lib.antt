@@ -1,3 +1,3 @@
-mod Parts
-mod Spans
-mod Closing
+pub mod Parts
+pub mod Spans
+pub mod Closing

@@ -6,10 +6,10 @@ use Rattle.std.proofs.lemmas.Slice.{take-put_mid_below, between-put_mid}
 use Rattle.std.proofs.lemmas.Bool.{cases_eq, cases_lt}
 use Rattle.table.specs.Places.{one_if_taken, taken_places}
 use Rattle.table.proofs.Places.{taken_map}
-use Rattle.hold.specs.Meaning.{size, bytes_held, cell_at, frame_length, stores}
+use Rattle.hold.specs.Meaning.{size, bytes_held, cell_at, stores}
 use Rattle.hold.proofs.Cells.{stores_gives, none_at}
 use Rattle.packed.specs.declared.Span.{Span}
-use Rattle.packed.specs.Spans.{Spans, frame_in, cells_of, span_length, extent, end_of, total, Inside, Apart}
+use Rattle.packed.specs.Spans.{Spans, frame_in, cells_of, extent, total, Inside, Apart}
 use Rattle.packed.proofs.Parts.{part_same}
 
 pub none_some : (s : Span) → None ≡ Some s → ⊥
@@ -48,10 +48,10 @@ length_in b s h =
     let q : s.len ≤ length (drop s.start b) = omega (arith, length-drop s.start b) in
     length-take-le s.len (drop s.start b) q
 
--- a span within the bytes tells the length of its frame
-pub told_in : (b : List ℕ) (e : Option Span) → end_of e ≤ length b → frame_length (frame_in b e) ≡ span_length e
-told_in b None h = refl
-told_in b (Some s) h = ap Some (length_in b s h)
+-- where a span ends
+abbrev pub end_of : Option Span → ℕ
+end_of None = 0
+end_of (Some s) = s.start + s.len
 
 pub end_inside : (u : ℕ) (e : Option Span) → ((s : Span) → e ≡ Some s → s.start + s.len ≤ u) → end_of e ≤ u
 end_inside u None h = omega arith

@@ -1,5 +1,5 @@
 -- Frames packed end to end in lent bytes: a span tells where a place's frame lies.
-use Rattle.std.specs.Prelude.{◌≡◌, ℕ, ◌+◌, ◌-◌, ◌<◌, ◌≤◌, cond, ◌≢◌, List, [], ◌∷◌, ◌++◌, map, get_or, take, drop, Some, None, Option, nat_le, slice_index_or, slice_range}
+use Rattle.std.specs.Prelude.{◌≡◌, ℕ, ◌+◌, ◌-◌, ◌<◌, ◌≤◌, cond, ◌≢◌, List, [], ◌∷◌, map, get_or, take, drop, Some, None, Option, nat_le, slice_index_or}
 use Rattle.hold.specs.Meaning.{Cell, Cells}
 use Rattle.packed.specs.declared.Span.{Span}
 
@@ -16,18 +16,9 @@ frame_in b (Some s) = Some (take s.len (drop s.start b))
 unfoldable pub cells_of : Spans → List ℕ → Cells
 cells_of es b = map (frame_in b) es
 
-abbrev pub span_length : Option Span → Option ℕ
-span_length None = None
-span_length (Some s) = Some s.len
-
 abbrev pub extent : Option Span → ℕ
 extent None = 0
 extent (Some s) = s.len
-
--- where a span ends
-abbrev pub end_of : Option Span → ℕ
-end_of None = 0
-end_of (Some s) = s.start + s.len
 
 -- the bytes of all spans
 unfoldable pub total : Spans → ℕ
@@ -51,11 +42,6 @@ pub record Two (es : Spans) : Type 0 where
 -- no two spans share a byte: one that starts before the other ends has ended before the other starts
 abbrev pub Apart : Spans → Type 0
 Apart es = (p : Two es) → p.t.start < p.s.start + p.s.len → p.t.start + p.t.len ≤ p.s.start
-
--- the bytes once the gap of n bytes at a is closed: those behind it, up to u, have moved down to a, and its own follow them
-abbrev pub closed : ℕ → ℕ → ℕ → List ℕ → List ℕ
-closed a n u b =
-    take a b ++ ((drop n (slice_range b a u) ++ take n (slice_range b a u)) ++ drop (u - a) (drop a b))
 
 -- a span once the n bytes before `end` are gone
 abbrev pub lowered : ℕ → ℕ → Option Span → Option Span

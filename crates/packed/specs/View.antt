@@ -5,7 +5,7 @@ use Rattle.packed.specs.Spans.{cells_of}
 use Rattle.packed.specs.declared.Packed.{Packed}
 
 abbrev pub cells_in : Packed → Cells
-cells_in p = cells_of p.spans.entries.now p.bytes.now
+cells_in p = cells_of p.spans p.bytes.now
 
 abbrev pub most_in : Packed → ℕ
 most_in p = length p.bytes.now

@@ -11,7 +11,7 @@ use table::mask::Mask;
 pub mod calls;
 
 // Where a frame lies: `len` bytes from `start` on.
-#[derive(Clone, Copy)]
+#[derive(Clone, Copy, PartialEq, Eq, Debug)]
 pub struct Span {
     start: u16,
     len: u16,
@@ -21,14 +21,14 @@ pub struct Span {
 pub struct Packed<'a> {
     spans: Table<'a, Span>,
     bytes: &'a mut [u8],
-    // the frames fill the first `used` bytes, with no gap
+    // the frames fill the first `used` bytes, with no gap; a number beside lent memory, which has no length of its own that is filled
     used: usize,
     mask: Mask,
-    ghost few: { length spans.entries.now ≤ 64 },
+    ghost few: { length spans ≤ 64 },
     ghost small: { length bytes.now ≤ 65535 },
     ghost fits: { used ≤ length bytes.now },
-    ghost full: { used ≡ total spans.entries.now },
-    ghost inside: { Inside used spans.entries.now },
-    ghost apart: { Apart spans.entries.now },
-    ghost tied: { mask.bits ≡ mask_of (map is_some spans.entries.now) },
+    ghost full: { used ≡ total spans },
+    ghost inside: { Inside used spans },
+    ghost apart: { Apart spans },
+    ghost tied: { mask.bits ≡ mask_of (map is_some spans) },
 }

@@ -1,10 +1,12 @@
 -- Where the comma of a decimal stands, and how large what it counts can be.
-use Rattle.std.proofs.Common.{◌≡◌, ℕ, ◌+◌, ◌-◌, ◌*◌, ◌^◌, ◌<◌, ◌≤◌, List, [], ◌∷◌, ◌++◌, length, None, sym, refl, ap, ◌∙◌, mul-lt-mul_of_pos_right, arith, pow-add}
+use Rattle.std.proofs.Common.{◌≡◌, ℕ, ◌+◌, ◌-◌, ◌*◌, ◌^◌, ◌<◌, ◌≤◌, List, [], ◌∷◌, ◌++◌, length, None, sym, refl, ap, ◌∙◌, mul-lt-mul_of_pos_right, arith, pow-add, eqb, false, subst, MatchOption}
 use lib.Arith.{digits_lt}
 use native.Mathlib.Nat.{pow-le-pow_right}
 use Rattle.notation.specs.Digits.{value}
 use Rattle.notation.specs.declared.classes.Class.TheVariants.{Digit}
 use Rattle.std.specs.List.{AllByRecursion}
+use Rattle.std.specs.Bool.{then_some}
+use Rattle.std.proofs.lemmas.Bool.{ne_eqb}
 use Rattle.std.proofs.lemmas.List.{append-nil}
 use Rattle.pieces.specs.Cuts.{Cut, Stops}
 use Rattle.pieces.specs.Notation.{Of, Finds, Proper, dec, units}
@@ -37,6 +39,14 @@ parted {s} {u} {t} {x} {y} {g} k e j z =
     nothing : (l : List ℕ) → length l ≡ 0 → l ≡ []
     nothing [] h = refl
     nothing (b ∷ l) h = absurd (omega arith)
+
+-- nothing follows, or the contents are no decimal
+pub parted_if : {T : Type 0} (s u t x y g : List ℕ) (v : T) (w : T → List ℕ × List ℕ) → w v ≡ (u, y) → Cut (Of Digit) s u t → t ≡ 44 ∷ x → Cut (Of Digit) x y g →
+    MatchOption (then_some (eqb (length g) 0) v) ((q : List ℕ × List ℕ) → Parted s q → ⊥) (λ z. Parted s (w z))
+parted_if s u t x y [] v w e k h j = subst (Parted s) (sym e) (parted k h j refl)
+parted_if s u t x y (b ∷ g) v w e k h j =
+    let n : eqb (length (b ∷ g)) 0 ≡ false = ne_eqb (length (b ∷ g)) 0 (λ q. omega (arith, q)) in
+    rw n (more_follows k h j (omega arith))
 
 -- digits that are parted so fit only as they are parted
 pub same_parts : {s : List ℕ} (v w : List ℕ × List ℕ) → Parted s v → Parted s w → (v.0 ≡ w.0) × (v.1 ≡ w.1)

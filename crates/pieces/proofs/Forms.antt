@@ -1,10 +1,11 @@
 -- Notations of a fixed length, what stands at the front of contents, and when contents have one value.
-use Rattle.std.proofs.Common.{◌≡◌, ℕ, suc, ◌+◌, ◌^◌, ◌<◌, Bool, true, false, List, [], ◌∷◌, ◌++◌, length, Some, None, sym, refl, ap, ◌∙◌, subst, arith}
+use Rattle.std.proofs.Common.{◌≡◌, ℕ, suc, ◌+◌, ◌^◌, ◌<◌, Bool, true, false, List, [], ◌∷◌, ◌++◌, length, Some, None, sym, refl, ap, ◌∙◌, subst, arith, eqb}
 use Rattle.notation.specs.Digits.{value, digits}
 use Rattle.notation.specs.declared.classes.Class.{Class}
 use Rattle.notation.specs.declared.classes.Class.TheVariants.{Digit}
 use Rattle.notation.proofs.Digits.{length_digits, all_digits, value_digits}
-use Rattle.std.specs.List.{AllByRecursion}
+use Rattle.std.specs.Bool.{then_some}
+use Rattle.std.proofs.lemmas.Bool.{ne_eqb}
 use Rattle.std.proofs.lemmas.List.{append_assoc, append-nil, append_cancel_left, length-append, nil_from_length}
 use Rattle.pieces.specs.Cuts.{Front, Stops}
 use Rattle.pieces.specs.Notation.{Notation, Value, Of, Proper, print, Finds, Unambiguous, number, exactly, dec, sign, lead, opt, both, stands}
@@ -108,25 +109,21 @@ module _ (f : Notation) (s : List ℕ) where
   pub whole_found : (x : Value f) (t : List ℕ) → Front f s (Some (x, t)) → length t ≡ 0 → Finds f s (Some x)
   whole_found x t h z = (h.0 ∙ ap (λ l. print f x ++ l) (nil_from_length t z) ∙ append-nil (print f x), h.1)
 
+  -- whole contents, if nothing is left behind the front
+  pub whole_if : (n : ℕ) → Sized f n → (x : Value f) (t : List ℕ) → Front f s (Some (x, t)) → Finds f s (then_some (eqb (length t) 0) x)
+  whole_if n z x [] h = whole_found x [] h refl
+  whole_if n z x (b ∷ t) h =
+      let e : eqb (length (b ∷ t)) 0 ≡ false = ne_eqb (length (b ∷ t)) 0 (λ q. omega (arith, q)) in
+      rw e (whole_left n z x (b ∷ t) h (omega arith))
+
 module _ (f g : Notation) (s : List ℕ) where
   joined : (v : Value f) (y : Value g) (w : List ℕ) → (print f v ++ print g y) ++ w ≡ print f v ++ (print g y ++ w)
   joined v y w = append_assoc (print f v) (print g y) w
-
-  -- two pieces at the front
-  pub both_first : Front f s None → Front (both f g) s None
-  both_first none v w h e = none v.0 (print g v.1 ++ w) h.0 (e ∙ joined v.0 v.1 w)
 
   pub both_second : (n : ℕ) → Sized f n → (x : Value f) (t : List ℕ) → Front f s (Some (x, t)) → Front g t None → Front (both f g) s None
   both_second n z x t q none v w h e =
       let r = same_front (print f v.0) (print g v.1 ++ w) (print f x) t (sym (e ∙ joined v.0 v.1 w) ∙ q.0) (z.size v.0 h.0 ∙ sym (z.size x q.1)) in
       none v.1 w h.1 (sym r.1)
-
-  pub both_found : (x : Value f) (t : List ℕ) (y : Value g) (r : List ℕ) → Front f s (Some (x, t)) → Front g t (Some (y, r)) → Front (both f g) s (Some ((x, y), r))
-  both_found x t y r q p = (q.0 ∙ ap (λ l. print f x ++ l) p.0 ∙ sym (joined x y r), (q.1, p.1))
-
-  -- a front and then the whole rest
-  pub rest_first : Front f s None → Finds (both f g) s None
-  rest_first none v h = none v.0 (print g v.1) h.1.0 h.0
 
   pub rest_second : (n : ℕ) → Sized f n → (x : Value f) (t : List ℕ) → Front f s (Some (x, t)) → Finds g t None → Finds (both f g) s None
   rest_second n z x t q none v h =
@@ -147,24 +144,7 @@ module _ (b : ℕ) (f : Notation) (s : List ℕ) where
   pub lead_found : (t : List ℕ) (v : Value f) → s ≡ b ∷ t → Finds f t (Some v) → Finds (lead (b ∷ []) f) s (Some v)
   lead_found t v e h = (e ∙ ap (λ l. b ∷ l) h.0, h.1)
 
-  pub front_no_lead : ((t : List ℕ) → s ≡ b ∷ t → ⊥) → Front (lead (b ∷ []) f) s None
-  front_no_lead none v w h e = none (print f v ++ w) e
-
-  pub front_lead_none : (t : List ℕ) → s ≡ b ∷ t → Front f t None → Front (lead (b ∷ []) f) s None
-  front_lead_none t e none v w h q = let r : t ≡ print f v ++ w = cc in none v w h r
-
-  pub front_lead_found : (t : List ℕ) (v : Value f) (w : List ℕ) → s ≡ b ∷ t → Front f t (Some (v, w)) → Front (lead (b ∷ []) f) s (Some (v, w))
-  front_lead_found t v w e h = (e ∙ ap (λ l. b ∷ l) h.0, h.1)
-
 -- bytes of a class, and the number that digits write
-pub front_short : (k : ℕ) (c : Class) (s : List ℕ) → length s < k → Front (exactly k c) s None
-front_short k c s l v w h e = omega (arith, ap length e, length-append v w, h.0)
-
-pub front_not : (k : ℕ) (c : Class) (s x t : List ℕ) → s ≡ x ++ t → length x ≡ k → (AllByRecursion (Of c) x → ⊥) → Front (exactly k c) s None
-front_not k c s x t e l never v w h e' =
-    let q = same_front v w x t (sym e' ∙ e) (h.0 ∙ sym l) in
-    never (subst (AllByRecursion (Of c)) q.0 h.1)
-
 pub number_none : (k : ℕ) (s : List ℕ) → Front (exactly k Digit) s None → Front (number k) s None
 number_none k s none v w h e = none (digits k v) w (length_digits k v, all_digits k v) e
 

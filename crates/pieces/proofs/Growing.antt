@@ -1,8 +1,8 @@
 -- How a scratch grows.
-use Rattle.std.proofs.Common.{◌≡◌, ℕ, zero, suc, ◌+◌, ◌-◌, ◌/◌, ◌%◌, ◌^◌, ◌<◌, ◌≤◌, min, false, eqb, List, [], ◌∷◌, ◌++◌, length, get_or, take, drop, decimal, sym, refl, ap, ◌∙◌, subst, mod-eq_of_lt, mul_comm, div-lt_iff_lt-mul, pow-suc, div-one, arith}
+use Rattle.std.proofs.Common.{◌≡◌, ℕ, zero, suc, ◌+◌, ◌-◌, ◌/◌, ◌%◌, ◌^◌, ◌<◌, ◌≤◌, false, eqb, List, [], ◌∷◌, ◌++◌, length, get_or, take, decimal, sym, refl, ap, ◌∙◌, subst, mod-eq_of_lt, mul_comm, div-lt_iff_lt-mul, pow-suc, div-one, arith}
 use native.Mathlib.Nat.{div-div-eq-div-mul, pow-zero}
 use Rattle.notation.specs.Digits.{digits}
-use Rattle.std.proofs.lemmas.List.{append_assoc, append-nil, length-append, take_all, take_more, length-take, length-take-le, take_at}
+use Rattle.std.proofs.lemmas.List.{append_assoc, append-nil, take_all, take_more, length-take, take_at}
 use Rattle.std.proofs.lemmas.Fmt.{decimal_step, decimal_digit}
 use Rattle.std.proofs.lemmas.Bool.{cond-true, cond-false, eq-eqb, ne_eqb}
 use Rattle.pieces.specs.Plain.{fraction_text}
@@ -31,21 +31,16 @@ digits_push (suc w) n =
     ap (λ d. (d % 10 + 48) ∷ digits (suc w) n) (sym e) ∙ ap (λ l. (n / 10 / 10 ^ w % 10 + 48) ∷ l) (digits_push w n)
 
 -- one byte more, where there is room, and where there is none
-pub pushed : (bytes after : List ℕ) (n b : ℕ) → length bytes ≡ room → n < room → take (n + 1) after ≡ take n bytes ++ b ∷ [] → take (min (n + 1) room) after ≡ take room (take (min n room) bytes ++ b ∷ [])
-pushed bytes after n b l h e =
-    let m : min (n + 1) room ≡ n + 1 = omega arith in
-    let j : min n room ≡ n = omega arith in
-    let k : length (take n bytes ++ b ∷ []) ≡ n + 1 = length-append (take n bytes) (b ∷ []) ∙ ap (λ m. m + 1) (length-take-le n bytes (omega arith)) in
-    ap (λ i. take i after) m ∙ e ∙ sym (ap (λ i. take room (take i bytes ++ b ∷ [])) j ∙ take_all room (take n bytes ++ b ∷ []) (omega arith))
+pub pushed : (a : Scratch) (after : List ℕ) (b : ℕ) → after ≡ a.bytes.items ++ b ∷ [] → take room after ≡ take room (held a ++ b ∷ [])
+pushed a after b e = ap (take room) e ∙ sym (take_joined room a.bytes.items (b ∷ []))
 
-pub full : (bytes : List ℕ) (n b : ℕ) → length bytes ≡ room → room ≤ n → take (min n room) bytes ≡ take room (take (min n room) bytes ++ b ∷ [])
-full bytes n b l h =
-    let j : min n room ≡ room = omega arith in
-    let e : take (min n room) bytes ≡ bytes = ap (λ i. take i bytes) j ∙ take_all room bytes (omega arith) in
-    e ∙ sym (ap (λ x. take room (x ++ b ∷ [])) e ∙ ap (λ k. take k (bytes ++ b ∷ [])) (sym l) ∙ take_at bytes (b ∷ []) (length bytes) refl)
+pub full : (a : Scratch) (b : ℕ) → length a.bytes.items ≡ room → held a ≡ take room (held a ++ b ∷ [])
+full a b l =
+    let e : held a ≡ a.bytes.items = take_all room a.bytes.items (omega arith) in
+    e ∙ sym (ap (λ x. take room (x ++ b ∷ [])) e ∙ ap (λ k. take k (a.bytes.items ++ b ∷ [])) (sym l) ∙ take_at a.bytes.items (b ∷ []) (length a.bytes.items) refl)
 
 pub within_room : (a : Scratch) → length (held a) ≤ room
-within_room a = omega (arith, length-take (min a.len room) a.bytes)
+within_room a = omega (arith, length-take room a.bytes.items)
 
 pub grown_none : (a : Scratch) → Grown a a []
 grown_none a = sym (ap (take room) (append-nil (held a)) ∙ take_all room (held a) (within_room a))
@@ -107,9 +102,3 @@ module _ (a b : Scratch) (all : List ℕ) where
 pub fraction_done : (a : Scratch) (k r : ℕ) (all : List ℕ) → k ≤ 0 → take room (held a ++ fraction_text k r) ≡ all → held a ≡ all
 fraction_done a zero r all h e = grown_none a ∙ e
 fraction_done a (suc k) r all h e = absurd (omega arith)
-
--- what is held, in a copy
-pub copied : (last bytes out : List ℕ) (n : ℕ) → last ≡ take (n - 0) bytes → last ++ drop (n - 0) out ≡ take n bytes ++ drop n out
-copied last bytes out n e =
-    let z : n - 0 ≡ n = omega arith in
-    ap (λ l. l ++ drop (n - 0) out) (e ∙ ap (λ m. take m bytes) z) ∙ ap (λ m. take n bytes ++ drop m out) z

@@ -1,10 +1,8 @@
 -- The numbers that runs of digits write.
-use Rattle.std.proofs.Common.{◌≡◌, ℕ, zero, suc, ◌+◌, ◌-◌, ◌*◌, ◌/◌, ◌%◌, ◌^◌, ◌<◌, ◌≤◌, Bool, true, false, ◌⊎◌, List, [], ◌∷◌, ◌++◌, length, get_or, take, sym, refl, ap, ◌∙◌, inl, inr, mul-le-mul_right, mod-eq_of_lt, mul_assoc, mul_comm, add-mul, pow-suc, arith}
+use Rattle.std.proofs.Common.{◌≡◌, ℕ, zero, suc, ◌+◌, ◌-◌, ◌*◌, ◌/◌, ◌%◌, ◌^◌, ◌<◌, ◌≤◌, List, [], ◌∷◌, ◌++◌, length, get_or, take, sym, refl, ap, ◌∙◌, mul-le-mul_right, mod-eq_of_lt, mul_assoc, mul_comm, add-mul, pow-suc, arith}
 use lib.Arith.{digits_div}
 use native.Mathlib.Nat.{pow-zero, one-le-pow, pow-le-pow_right, mul-add-div_right, mul-add-mod_self_right}
-use Rattle.notation.specs.Classes.{is_of}
 use Rattle.notation.specs.Digits.{value_after, value, digits}
-use Rattle.notation.specs.declared.classes.Class.{Class}
 use Rattle.notation.specs.declared.classes.Class.TheVariants.{Digit, Capital}
 use Rattle.std.specs.List.{AllByRecursion}
 use Rattle.std.proofs.lemmas.Bool.Decides.{nat_tests}
@@ -24,18 +22,6 @@ digit_is b l h = grind (arith, nat_tests)
 
 pub capital_range : (b : ℕ) → Of Capital b → (65 ≤ b) × (b ≤ 90)
 capital_range b h = (grind (arith, nat_tests), grind (arith, nat_tests))
-
--- a byte is of a class or not
-pub of_class : (c : Class) (b : ℕ) → Of c b ⊎ (Of c b → ⊥)
-of_class c b = go (is_of c b) refl
-  where
-    go : (t : Bool) → is_of c b ≡ t → (is_of c b ≡ true) ⊎ (is_of c b ≡ true → ⊥)
-    go true e = inl e
-    go false e = inr (λ h. let z : true ≡ false = sym h ∙ e in let o : ◌≡◌ {A = ℕ} 0 1 = cc in omega arith)
-
-pub all_of_class : (c : Class) (s : List ℕ) → AllByRecursion (Of c) s ⊎ (AllByRecursion (Of c) s → ⊥)
-all_of_class c [] = inl tt
-all_of_class c (b ∷ s) = elim (of_class c b) [ inl d ↦ elim (all_of_class c s) [ inl a ↦ inl (d, a) | inr n ↦ inr (λ h. n h.1) ] | inr n ↦ inr (λ h. n h.0) ]
 
 -- digits that follow others
 pub value_append : (v : ℕ) (xs ys : List ℕ) → value_after v (xs ++ ys) ≡ value_after (value_after v xs) ys

@@ -1,5 +1,5 @@
 -- A scratch holds what was written into it, up to its size.
-use Rattle.std.specs.Prelude.{◌≡◌, ℕ, ◌<◌, ◌≤◌, min, List, ◌++◌, length, take, drop, Some, None, Option}
+use Rattle.std.specs.Prelude.{◌≡◌, ℕ, ◌<◌, ◌≤◌, List, ◌++◌, length, take, drop, Some, None, Option}
 use Rattle.pieces.specs.declared.scratch.Scratch.{Scratch}
 
 -- how many bytes it has room for
@@ -7,7 +7,7 @@ abbrev pub room : ℕ
 room = 320
 
 abbrev pub held : Scratch → List ℕ
-held s = take (min s.len room) s.bytes
+held s = take room s.bytes.items
 
 -- xs was written on, as far as there was room
 abbrev pub Grown : Scratch → Scratch → List ℕ → Type 0

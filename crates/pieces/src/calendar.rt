@@ -1,6 +1,9 @@
 // Dates of 2000 to 2099 and times of day.
 ghost use Rattle.std.specs.Prelude.{◌≡◌, ◌+◌, ◌<◌, ◌&&◌, if◌then◌else◌, Some, None, nat_lt};
 ghost use Rattle.pieces.specs.Calendar.{leap, days_in, exists, date_of, time_of, runs};
+ghost use Rattle.pieces.specs.Words.{date_words, time_words};
+
+use std::fmt;
 
 #[derive(Clone, Copy, PartialEq, Eq, Debug)]
 pub struct Date {
@@ -29,6 +32,39 @@ fn days_in(year: u16, month: u8) -> u8
         2 => if is_leap(year) { 29 } else { 28 },
         4 | 6 | 9 | 11 => 30,
         _ => 31,
+    }
+}
+
+// As a person reads it: `2026-04-01`.
+impl fmt::Display for Date {
+    ghost output = { λ d. Some (date_words d) };
+
+    fn fmt<W: fmt::Write>(&self, f: &mut fmt::Formatter<W>) -> fmt::Result {
+        write!(
+            f,
+            "{}-{}{}-{}{}",
+            self.year,
+            self.month / 10,
+            self.month % 10,
+            self.day / 10,
+            self.day % 10
+        )
+    }
+}
+
+// As a person reads it: `09:15`.
+impl fmt::Display for Time {
+    ghost output = { λ t. Some (time_words t) };
+
+    fn fmt<W: fmt::Write>(&self, f: &mut fmt::Formatter<W>) -> fmt::Result {
+        write!(
+            f,
+            "{}{}:{}{}",
+            self.hour / 10,
+            self.hour % 10,
+            self.minute / 10,
+            self.minute % 10
+        )
     }
 }
 
@@ -65,7 +101,7 @@ pub fn date_of(n: u32) -> Option<Date>
         month: (n / 100 % 100) as u8,
         day: (n % 100) as u8,
     };
-    if date.exists() { Some(date) } else { None }
+    date.exists().then_some(date)
 }
 
 // The time that four digits say, which write `n`; nothing if there is no such time.
@@ -79,5 +115,5 @@ pub fn time_of(n: u32) -> Option<Time>
         hour: (n / 100) as u8,
         minute: (n % 100) as u8,
     };
-    if time.exists() { Some(time) } else { None }
+    time.exists().then_some(time)
 }

@@ -5,7 +5,7 @@ ghost use Rattle.pieces.specs.Notation.{Of, units};
 ghost use Rattle.pieces.specs.Plain.{places, Parted, Counted, OnePlainText, ZeroText};
 ghost use Rattle.std.specs.List.{AllByRecursion};
 
-use crate::cuts::{after, number_of, split_digits};
+use crate::cuts::{Digits, after, split_digits};
 
 // What a decimal counts.
 #[derive(Clone, Copy, PartialEq, Eq, Debug)]
@@ -33,12 +33,7 @@ impl Scale {
     pub fn unit(self) -> u64
         ensures units_in_one { result ≡ 10 ^ places self }
     {
-        match self {
-            Scale::Hundredths => 100,
-            Scale::Thousandths => 1_000,
-            Scale::TenThousandths => 10_000,
-            Scale::HundredThousandths => 100_000,
-        }
+        10u64.pow(self.places() as u32)
     }
 }
 
@@ -51,26 +46,22 @@ pub struct Decimal {
 }
 
 // The digits before the comma and those after it.
-fn cut_decimal(s: &[u8]) -> Option<(&[u8], &[u8])>
-    ensures { MatchOption result ((v : List ℕ × List ℕ) → Parted s.now v → ⊥) (λ x. Parted s.now (x.0.now, x.1.now)) }
+fn cut_decimal(s: &[u8]) -> Option<(Digits<'_>, Digits<'_>)>
+    ensures { MatchOption result ((v : List ℕ × List ℕ) → Parted s.now v → ⊥) (λ x. Parted s.now (x.0.bytes.now, x.1.bytes.now)) }
 {
     let (whole, tail) = split_digits(s);
     let tail = after(tail, b',')?;
     let (fraction, tail) = split_digits(tail);
-    if tail.len() > 0 {
-        return None;
-    }
-    Some((whole, fraction))
+    tail.is_empty().then_some((whole, fraction))
 }
 
 // How many units of the scale they write.
-fn in_units(whole: &[u8], fraction: &[u8], scale: Scale) -> u64
-    requires digits { AllByRecursion (Of Digit) whole.now × AllByRecursion (Of Digit) fraction.now }
-    requires few { (length fraction.now ≤ places scale) × (length whole.now ≤ 13) }
-    ensures { result ≡ units (places scale) (whole.now, fraction.now) }
+fn in_units(whole: Digits<'_>, fraction: Digits<'_>, scale: Scale) -> u64
+    requires few { (length fraction.bytes.now ≤ places scale) × (length whole.bytes.now ≤ 13) }
+    ensures { result ≡ units (places scale) (whole.entry.bytes.now, fraction.entry.bytes.now) }
 {
-    let front = number_of(whole) * scale.unit();
-    front + number_of(fraction) * 10u64.pow((scale.places() - fraction.len()) as u32)
+    let front = whole.number() * scale.unit();
+    front + fraction.number() * 10u64.pow((scale.places() - fraction.len()) as u32)
 }
 
 // The decimal of at most so many whole digits, 13 at most, that contents write.
@@ -91,9 +82,7 @@ pub fn read_decimal(s: &[u8], whole: usize, scale: Scale) -> Option<Decimal>
     })
 }
 
-pub fn a_decimal_has_one_plain_text() -> u8
+pub fn a_decimal_has_one_plain_text()
     ensures one_plain_text { OnePlainText }
     ensures zero_has_no_sign { ZeroText }
-{
-    0
-}
+{}

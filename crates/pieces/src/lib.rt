@@ -2,6 +2,7 @@
 #![tactic(auto)]
 
 pub mod calendar;
+pub mod contents;
 pub mod cuts;
 pub mod decimals;
 pub mod scratch;

@@ -6,12 +6,15 @@ ghost use Rattle.pieces.specs.Plain.{places, whole_text, fraction_text, plain};
 ghost use Rattle.pieces.specs.Scratches.{held, Grown, Copied};
 
 use crate::decimals::Scale;
+use arrayvec::ArrayVec;
 
-// Bytes written so far. The longest text of a trade has 276 bytes; what is written past the room is let go.
+// How many bytes it has room for. The longest text of a trade has 276; what is written past the room is let go.
+const ROOM: usize = 320;
+
+// Bytes written so far.
 #[derive(Drop)]
 pub struct Scratch {
-    bytes: [u8; 320],
-    len: usize,
+    bytes: ArrayVec<u8, ROOM>,
 }
 
 impl Scratch {
@@ -19,8 +22,7 @@ impl Scratch {
         ensures empty { held result ≡ [] }
     {
         Scratch {
-            bytes: [0; 320],
-            len: 0,
+            bytes: ArrayVec::new(),
         }
     }
 
@@ -28,9 +30,8 @@ impl Scratch {
     pub fn push(&mut self, b: u8)
         ensures grown { Grown self.old self.new (b ∷ []) }
     {
-        if self.len < 320 {
-            self.bytes[self.len] = b;
-            self.len += 1;
+        if !self.bytes.is_full() {
+            self.bytes.push(b);
         }
     }
 
@@ -78,6 +79,7 @@ impl Scratch {
         ensures { Grown self.old self.new (fraction_text places r) }
     {
         let mut rest = r;
+        // a `for` over the exponents themselves, downwards
         for k in (0..places).rev() {
             let unit = 10u64.pow(k);
             self.push(b'0' + (rest / unit) as u8);
@@ -102,11 +104,11 @@ impl Scratch {
     pub fn copy_to(&self, out: &mut [u8]) -> Option<usize>
         ensures copied { Copied (held self.now) out.old out.new result }
     {
-        let n = self.len.min(320);
-        if out.len() < n {
+        let text = self.bytes.as_slice();
+        if out.len() < text.len() {
             return None;
         }
-        out[0..n].copy_from_slice(&self.bytes[0..n]);
-        Some(n)
+        out[..text.len()].copy_from_slice(text);
+        Some(text.len())
     }
 }

@@ -98,9 +98,6 @@ has_with b b' k pos free et j =
 abbrev Home : List (Option OpenTrade) → Type 0
 Home es = (i : ℕ) (t : OpenTrade) → get_or es i None ≡ Some t → (t.isn.0 % length es ≡ i) × (1 ≤ t.isn.0)
 
-same_trade : (t u : OpenTrade) → ◌≡◌ {A = Option OpenTrade} (Some t) (Some u) → t ≡ u
-same_trade t u e = cc
-
 -- an entry that is set at its own place, or taken out
 pub home_set : (es es' : List (Option OpenTrade)) (i : ℕ) (o : Option OpenTrade) → es' ≡ set es i o → i < length es →
     ((t : OpenTrade) → o ≡ Some t → (t.isn.0 % length es ≡ i) × (1 ≤ t.isn.0)) → Home es → Home es'

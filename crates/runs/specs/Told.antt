@@ -1,6 +1,5 @@
 -- The history that a list of turns tells, before and after its calls.
 use Rattle.std.specs.Prelude.{ℕ, List, [], ◌∷◌, vec_items}
-use Rattle.book.specs.View.{ledger}
 use Rattle.book.specs.declared.Book.{Book}
 use Rattle.hold.specs.Meaning.{Cells}
 use Rattle.line.specs.View.{view}
@@ -32,4 +31,4 @@ told h (b ∷ bs) (a ∷ ys) = told (event_of b a ∷ h) bs ys
 
 -- the line, its hold (the places and their most bytes) and its book tell the history h of a run with these settings, P places and U places
 abbrev pub Tell : Settings → ℕ → ℕ → ℕ → History → Line → Cells → Book → Type 0
-Tell x P C U h l cs b = Stands x P C U h (view l cs) (ledger b)
+Tell x P C U h l cs b = Stands x P C U h (view l cs) b

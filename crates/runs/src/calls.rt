@@ -1,5 +1,6 @@
-// Runs: one call, a list of calls, and a list from set-up on.
-ghost use Rattle.book.specs.View.{entries_of, ledger};
+// Runs: one call, a list of calls, and a list from set-up on. Session, line, hold and book are lent apart, as a line's calls take them;
+// what ties them before and after a call is said in each contract, since no type's invariant can. begin and run refuse as set_up does,
+// and say so again, since each is called by itself.
 ghost use Rattle.frame.specs.declared.faults.LineFault.TheVariants.{Setting};
 ghost use Rattle.line.specs.Settings.{Ranges};
 ghost use Rattle.runs.specs.Law.{Decided, Law};
@@ -21,10 +22,10 @@ pub fn begin<H: Hold>(
     hold: &mut H,
     book: &mut Book<'_>,
 ) -> Result<Line, LineFault>
-    ensures tells_no_call { IfOk result (λ line. (line.settings ≡ settings) × Tell settings (length (H.cells hold.old)) (H.most hold.old) (length (entries_of book.old)) [] line (H.cells hold.new) book.new) }
+    ensures tells_no_call { IfOk result (λ line. (line.settings ≡ settings) × Tell settings (length (H.cells hold.old)) (H.most hold.old) (length book.old.entries) [] line (H.cells hold.new) book.new) }
     ensures in_range { MatchResult result (λ _. Ranges settings) (λ e. (e ≡ Setting) × (Ranges settings → ⊥)) }
     ensures most_unchanged { H.most hold.new ≡ H.most hold.old }
-    ensures refusal_changes_nothing { OnErr result ((H.cells hold.new ≡ H.cells hold.old) × (ledger book.new ≡ ledger book.old)) }
+    ensures refusal_changes_nothing { OnErr result ((H.cells hold.new ≡ H.cells hold.old) × (book.new ≡ book.old)) }
 {
     set_up(settings, hold, book)
 }
@@ -44,7 +45,8 @@ pub fn answer<H: Hold>(
     ensures most_unchanged { H.most hold.new ≡ H.most hold.old }
     ensures request_unchanged { turn.new.request ≡ turn.old.request }
 {
-    match turn.request {
+    // The reply is set in each arm. One assignment from the match was tried: its proof no longer knows which call was made.
+    match &turn.request {
         Request::Arrival(frame) => turn.reply = Reply::Arrival(line.arrive(
             session, hold, book, frame,
         )),
@@ -55,7 +57,7 @@ pub fn answer<H: Hold>(
         Request::Posting(trade) => turn.reply = Reply::Posting(line.post(
             session,
             book,
-            &trade,
+            trade,
             &mut turn.output,
         )),
     }
@@ -89,10 +91,10 @@ pub fn run<H: Hold>(
     book: &mut Book<'_>,
     turns: &mut [Turn<'_>],
 ) -> Result<Line, LineFault>
-    ensures law { OnOk result (Law settings (length (H.cells hold.old)) (H.most hold.old) (length (entries_of book.old)) (told [] turns.old turns.new)) }
-    ensures tells_these_calls { IfOk result (λ line. Tell settings (length (H.cells hold.old)) (H.most hold.old) (length (entries_of book.old)) (told [] turns.old turns.new) line (H.cells hold.new) book.new) }
+    ensures law { OnOk result (Law settings (length (H.cells hold.old)) (H.most hold.old) (length book.old.entries) (told [] turns.old turns.new)) }
+    ensures tells_these_calls { IfOk result (λ line. Tell settings (length (H.cells hold.old)) (H.most hold.old) (length book.old.entries) (told [] turns.old turns.new) line (H.cells hold.new) book.new) }
     ensures in_range { MatchResult result (λ _. Ranges settings) (λ e. (e ≡ Setting) × (Ranges settings → ⊥)) }
-    ensures refusal_changes_nothing { OnErr result ((H.cells hold.new ≡ H.cells hold.old) × (ledger book.new ≡ ledger book.old) × (turns.new ≡ turns.old)) }
+    ensures refusal_changes_nothing { OnErr result ((H.cells hold.new ≡ H.cells hold.old) × (book.new ≡ book.old) × (turns.new ≡ turns.old)) }
 {
     let mut line = begin(settings, hold, book)?;
     go_on(session, &mut line, hold, book, turns);

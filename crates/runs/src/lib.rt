@@ -9,7 +9,7 @@ use trade::reading::Trade;
 pub mod calls;
 
 // What is asked of a line.
-#[derive(Clone, Copy)]
+#[derive(Clone, Copy, PartialEq, Eq, Debug)]
 pub enum Request<'a> {
     // a frame arrives
     Arrival(&'a [u8]),
@@ -24,7 +24,7 @@ pub enum Request<'a> {
 }
 
 // What each call answers.
-#[derive(Clone, Copy)]
+#[derive(Clone, Copy, PartialEq, Eq, Debug)]
 pub enum Reply {
     Arrival(Result<Arrived, LineFault>),
     Take(Result<Delivery, LineFault>),

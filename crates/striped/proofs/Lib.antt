@@ -1,1 +1,1 @@
-mod Stripes
+pub mod Stripes

@@ -1,117 +1,103 @@
 -- What the lengths say of the places, and a frame written to a stripe.
-use Rattle.std.proofs.Common.{◌≡◌, ℕ, zero, suc, ◌+◌, ◌*◌, ◌<◌, ◌≤◌, max, List, [], ◌∷◌, ◌++◌, length, get_or, take, drop, set, replicate, Some, None, Option, sym, refl, ap, ◌∙◌, ap₂, ⊎_elim, le_of_suc-le-suc, arith}
-use Rattle.std.proofs.lemmas.List.{length-take, length-take-le, length-drop, drop-drop, take_at, drop-append-le, drop-take}
-use Rattle.std.proofs.lemmas.Slice.{drop-append-drop, take-put_mid_below}
-use Rattle.std.proofs.lemmas.Bool.{cases_lt}
+use Rattle.std.proofs.Common.{◌≡◌, ℕ, zero, suc, ◌+◌, ◌*◌, ◌<◌, ◌≤◌, true, not, leb, is_some, List, [], ◌∷◌, ◌++◌, length, get_or, take, set, replicate, Some, None, Option, sym, refl, ap, ◌∙◌, le_of_suc-le-suc, arith, length-set}
+use Rattle.std.specs.List.{refill}
+use Rattle.std.proofs.lemmas.List.{length-take, take_all, drop_all, append-nil, set_past}
+use Rattle.std.proofs.lemmas.Bool.{and_parts, leb-true}
+use Rattle.std.proofs.lemmas.Bool.Decides.{nat_tests}
 use Rattle.table.specs.Places.{taken_places}
-use Rattle.hold.specs.Meaning.{size, bytes_held, cell_at, frame_length}
+use Rattle.hold.specs.Meaning.{Cell, Cells, size, bytes_held, cell_at, frame_sized, stores}
 use Rattle.hold.proofs.Cells.{none_at}
-use Rattle.striped.specs.Stripes.{Lengths, front, cells_of, put_at, Short, end_at, spare}
+use Rattle.striped.specs.Stripes.{Lengths, Stripes, front, cells_of, Short}
 
-pub set_take : {E : Type 0} (n : ℕ) (es : List E) (k : ℕ) (e : E) → take n (set es k e) ≡ set (take n es) k e
-set_take zero es k e = refl
-set_take (suc n) [] k e = refl
-set_take (suc n) (x ∷ es) zero e = refl
-set_take (suc n) (x ∷ es) (suc k) e = ap (λ ys. x ∷ ys) (set_take n es k e)
+-- a list of which one place was written through a slice of it
+pub refill_set : {E : Type 0} (xs : List E) (k : ℕ) (v : E) → refill (length xs) xs (set xs k v) ≡ set xs k v
+refill_set xs k v =
+    let l : length (set xs k v) ≡ length xs = length-set xs k v in
+    let a : length xs ≤ length (set xs k v) = omega arith in
+    let b : length (set xs k v) ≤ length xs = omega arith in
+    ap (λ ys. take (length xs) (set xs k v ++ ys)) (drop_all (length (set xs k v)) xs a) ∙ ap (take (length xs)) (append-nil (set xs k v)) ∙ take_all (length xs) (set xs k v) b
 
--- ---- the places by their lengths
+-- ---- the places by their lengths, as many as there are stripes
 
-pub length_cells : (es : Lengths) (b : List ℕ) → length (cells_of es b) ≡ length es
+pub length_cells : (es : Lengths) (ss : Stripes) → length ss ≡ length es → length (cells_of es ss) ≡ length es
 unfolding cells_of
-length_cells [] b = refl
-length_cells (e ∷ es) b = ap suc (length_cells es (drop 1023 b))
+length_cells [] ss h = refl
+length_cells (e ∷ es) [] h = absurd (omega arith)
+length_cells (e ∷ es) (s ∷ ss) h = ap suc (length_cells es ss (let z : length ss ≡ length es = omega arith in z))
 
-next : (b : List ℕ) (k : ℕ) → drop (k * 1023) (drop 1023 b) ≡ drop (suc k * 1023) b
-next b k = drop-drop (k * 1023) 1023 b ∙ ap (λ n. drop n b) (let e : 1023 + k * 1023 ≡ suc k * 1023 = omega arith in e)
-
-pub get_cells : (es : Lengths) (b : List ℕ) (k : ℕ) → cell_at (cells_of es b) k ≡ front (drop (k * 1023) b) (get_or es k None)
+pub get_cells : (es : Lengths) (ss : Stripes) (k : ℕ) → length ss ≡ length es → cell_at (cells_of es ss) k ≡ front (get_or ss k []) (get_or es k None)
 unfolding cells_of
-get_cells [] b k = refl
-get_cells (e ∷ es) b zero = refl
-get_cells (e ∷ es) b (suc k) = get_cells es (drop 1023 b) k ∙ ap (λ c. front c (get_or es k None)) (next b k)
+get_cells [] ss k h = refl
+get_cells (e ∷ es) [] k h = absurd (omega arith)
+get_cells (e ∷ es) (s ∷ ss) zero h = refl
+get_cells (e ∷ es) (s ∷ ss) (suc k) h = get_cells es ss k (let z : length ss ≡ length es = omega arith in z)
 
-pub set_none : (es : Lengths) (b : List ℕ) (k : ℕ) → cells_of (set es k None) b ≡ set (cells_of es b) k None
+pub set_none : (es : Lengths) (ss : Stripes) (k : ℕ) → cells_of (set es k None) ss ≡ set (cells_of es ss) k None
 unfolding cells_of
-set_none [] b k = refl
-set_none (e ∷ es) b zero = refl
-set_none (e ∷ es) b (suc k) = ap (λ cs. front b e ∷ cs) (set_none es (drop 1023 b) k)
+set_none [] ss k = refl
+set_none (e ∷ es) [] zero = refl
+set_none (e ∷ es) [] (suc k) = refl
+set_none (e ∷ es) (s ∷ ss) zero = refl
+set_none (e ∷ es) (s ∷ ss) (suc k) = ap (λ cs. front s e ∷ cs) (set_none es ss k)
 
-pub taken_cells : (es : Lengths) (b : List ℕ) → taken_places (cells_of es b) ≡ taken_places es
+pub none_past : (es : Lengths) (ss : Stripes) (k : ℕ) → length es ≤ k → cells_of es ss ≡ set (cells_of es ss) k None
+none_past es ss k h = sym (ap (λ xs. cells_of xs ss) (set_past es k None h)) ∙ set_none es ss k
+
+pub set_some : (es : Lengths) (ss : Stripes) (k : ℕ) (f s : List ℕ) → take (length f) s ≡ f →
+    cells_of (set es k (Some (length f))) (set ss k s) ≡ set (cells_of es ss) k (Some f)
+unfolding cells_of
+set_some [] ss k f s h = refl
+set_some (e ∷ es) [] zero f s h = refl
+set_some (e ∷ es) [] (suc k) f s h = refl
+set_some (e ∷ es) (x ∷ ss) zero f s h = ap (λ y. Some y ∷ cells_of es ss) h
+set_some (e ∷ es) (x ∷ ss) (suc k) f s h = ap (λ cs. front x e ∷ cs) (set_some es ss k f s h)
+
+pub taken_cells : (es : Lengths) (ss : Stripes) → length ss ≡ length es → taken_places (cells_of es ss) ≡ taken_places es
 unfolding cells_of taken_places
-taken_cells [] b = refl
-taken_cells (None ∷ es) b = ap (λ n. n + 0) (taken_cells es (drop 1023 b))
-taken_cells (Some m ∷ es) b = ap (λ n. n + 1) (taken_cells es (drop 1023 b))
+taken_cells [] ss h = refl
+taken_cells (e ∷ es) [] h = absurd (omega arith)
+taken_cells (None ∷ es) (s ∷ ss) h = ap (λ n. n + 0) (taken_cells es ss (let z : length ss ≡ length es = omega arith in z))
+taken_cells (Some m ∷ es) (s ∷ ss) h = ap (λ n. n + 1) (taken_cells es ss (let z : length ss ≡ length es = omega arith in z))
 
 -- ---- lengths
-
-pub end_within : (es : Lengths) (b : List ℕ) (k : ℕ) (e : Option ℕ) → k < length es → length es * 1023 ≤ length b → ((n : ℕ) → e ≡ Some n → n ≤ 1023) → end_at k e ≤ length b
-end_within es b k None h w s = omega arith
-end_within es b k (Some n) h w s = let q = s n refl in omega arith
-
-pub told_front : (b : List ℕ) (k : ℕ) (e : Option ℕ) → end_at k e ≤ length b → frame_length (front (drop (k * 1023) b) e) ≡ e
-told_front b k None h = refl
-told_front b k (Some n) h =
-    let q : n ≤ length (drop (k * 1023) b) = omega (arith, length-drop (k * 1023) b) in
-    ap Some (length-take-le n (drop (k * 1023) b) q)
 
 size_front : (b : List ℕ) (e : Option ℕ) → ((n : ℕ) → e ≡ Some n → n ≤ 1023) → size (front b e) ≤ 1023
 size_front b None s = omega arith
 size_front b (Some n) s = let q = s n refl in omega (arith, length-take n b)
 
-bytes_most : (es : Lengths) (b : List ℕ) → Short es → bytes_held (cells_of es b) ≤ length es * 1023
+bytes_most : (es : Lengths) (ss : Stripes) → Short es → bytes_held (cells_of es ss) ≤ length ss * 1023
 unfolding cells_of bytes_held
-bytes_most [] b s = omega arith
-bytes_most (e ∷ es) b s = omega (arith, bytes_most es (drop 1023 b) (λ k. s (suc k)), size_front b e (s 0))
+bytes_most [] ss s = omega arith
+bytes_most (e ∷ es) [] s = omega arith
+bytes_most (e ∷ es) (b ∷ ss) s = omega (arith, bytes_most es ss (λ k. s (suc k)), size_front b e (s 0))
 
 -- an empty place leaves room for a whole stripe
-empty_room : (es : Lengths) (b : List ℕ) (k : ℕ) → Short es → k < length es → get_or es k None ≡ None → bytes_held (cells_of es b) + 1023 ≤ length es * 1023
+pub empty_room : (es : Lengths) (ss : Stripes) (k : ℕ) → Short es → k < length ss → cell_at (cells_of es ss) k ≡ None → bytes_held (cells_of es ss) + 1023 ≤ length ss * 1023
 unfolding cells_of bytes_held
-empty_room [] b k s h e = absurd (omega arith)
-empty_room (x ∷ es) b zero s h e =
-    let q : size (front b x) ≡ 0 = ap (λ y. size (front b y)) e in
-    omega (arith, bytes_most es (drop 1023 b) (λ k. s (suc k)))
-empty_room (x ∷ es) b (suc k) s h e =
-    omega (arith, empty_room es (drop 1023 b) k (λ j. s (suc j)) (le_of_suc-le-suc h) e, size_front b x (s 0))
+empty_room es [] k s h e = absurd (omega arith)
+empty_room [] (b ∷ ss) k s h e = omega arith
+empty_room (x ∷ es) (b ∷ ss) zero s h e =
+    let q : size (front b x) ≡ 0 = ap size e in
+    omega (arith, bytes_most es ss (λ k. s (suc k)))
+empty_room (x ∷ es) (b ∷ ss) (suc k) s h e =
+    omega (arith, empty_room es ss k (λ j. s (suc j)) (le_of_suc-le-suc h) e, size_front b x (s 0))
 
-pub spare_room : (es : Lengths) (b : List ℕ) (k : ℕ) (e : Option ℕ) → Short es → get_or es k None ≡ e → bytes_held (cells_of es b) + spare e ≤ max (length es) (k + 1) * 1023
-spare_room es b k None s h =
-    ⊎_elim
-    (λ (q : k < length es). let z : bytes_held (cells_of es b) + 1023 ≤ max (length es) (k + 1) * 1023 = omega (arith, empty_room es b k s q h) in z)
-    (λ (q : length es ≤ k). let z : bytes_held (cells_of es b) + 1023 ≤ max (length es) (k + 1) * 1023 = omega (arith, bytes_most es b s) in z)
-    (cases_lt k (length es))
-spare_room es b k (Some n) s h = omega (arith, bytes_most es b s)
+-- a place with no frame takes each frame that is no longer than a stripe
+stores_as : (cs : Cells) (most k n : ℕ) (c : Cell) → cell_at cs k ≡ c → k < length cs → frame_sized n ≡ true →
+    (c ≡ None → bytes_held cs + 1023 ≤ most) → stores cs most k n ≡ not (is_some (cell_at cs k))
+stores_as cs most k n None e h f r =
+    let q = r refl in
+    let m : n ≤ 1023 = leb-true n 1023 (and_parts (leb 23 n) _ f).1 in
+    let z : bytes_held cs + n ≤ most = omega arith in
+    grind (arith, nat_tests)
+stores_as cs most k n (Some x) e h f r = grind (arith, nat_tests)
 
--- ---- a frame written to its stripe
-
--- a write past the first stripe, seen from the second on
-past : (b xs : List ℕ) (k : ℕ) → suc k * 1023 ≤ length b →
-    drop 1023 (put_at (suc k * 1023) xs b) ≡ put_at (k * 1023) xs (drop 1023 b)
-past b xs k h =
-    let z = xs ++ drop (length xs) (drop (suc k * 1023) b) in
-    let l : 1023 ≤ length (take (suc k * 1023) b) = omega (arith, length-take (suc k * 1023) b) in
-    let e : suc k * 1023 ≡ 1023 + k * 1023 = omega arith in
-    drop-append-le 1023 (take (suc k * 1023) b) z l
-    ∙ ap₂ (λ u v. u ++ (xs ++ drop (length xs) v)) (ap (λ n. drop 1023 (take n b)) e ∙ drop-take 1023 (k * 1023) b) (sym (next b k))
-
--- a write past the first stripe leaves the frame there
-front_past : (b xs : List ℕ) (k : ℕ) (e : Option ℕ) → suc k * 1023 ≤ length b → ((n : ℕ) → e ≡ Some n → n ≤ 1023) → front (put_at (suc k * 1023) xs b) e ≡ front b e
-front_past b xs k None h s = refl
-front_past b xs k (Some n) h s =
-    let q : n ≤ suc k * 1023 = omega (arith, s n refl) in
-    ap Some (take-put_mid_below (suc k * 1023) (length xs) b xs n q h)
-
-pub cells_kept : (es : Lengths) (b xs : List ℕ) (k : ℕ) → k < length es → length es * 1023 ≤ length b → length xs ≤ 1023 → Short es →
-    cells_of (set es k (Some (length xs))) (put_at (k * 1023) xs b) ≡ set (cells_of es b) k (Some xs)
-unfolding cells_of
-cells_kept [] b xs k h w l s = absurd (omega arith)
-cells_kept (e ∷ es) b xs zero h w l s =
-    ap₂ (λ p q. Some p ∷ cells_of es q) (take_at xs (drop (length xs) b) (length xs) refl) (drop-append-drop (length xs) b xs 1023 l refl)
-cells_kept (e ∷ es) b xs (suc k) h w l s =
-    let hk : k < length es = le_of_suc-le-suc h in
-    let a : suc k * 1023 ≤ length b = omega arith in
-    let w1 : length es * 1023 ≤ length (drop 1023 b) = omega (arith, length-drop 1023 b) in
-    ap₂ (λ p q. p ∷ q) (front_past b xs k e a (s 0))
-    (ap (cells_of (set es k (Some (length xs)))) (past b xs k a) ∙ cells_kept es (drop 1023 b) xs k hk w1 l (λ j. s (suc j)))
+pub stores_if_empty : (es : Lengths) (ss : Stripes) (k n : ℕ) → Short es → length ss ≡ length es → k < length es → frame_sized n ≡ true →
+    stores (cells_of es ss) (length ss * 1023) k n ≡ not (is_some (cell_at (cells_of es ss) k))
+stores_if_empty es ss k n s w h f =
+    let l : k < length (cells_of es ss) = omega (arith, length_cells es ss w) in
+    let b : k < length ss = omega arith in
+    stores_as (cells_of es ss) (length ss * 1023) k n (cell_at (cells_of es ss) k) refl l f (empty_room es ss k s b)
 
 -- ---- no frame longer than its stripe
 
@@ -137,10 +123,11 @@ short_dropped (x ∷ es) (suc k) s (suc j) n e = short_dropped es k (λ i. s (su
 
 -- ---- every place empty
 
-pub cells_none : (n : ℕ) (b : List ℕ) → cells_of (replicate n None) b ≡ replicate n None
+pub cells_none : (n : ℕ) (ss : Stripes) → length ss ≡ n → cells_of (replicate n None) ss ≡ replicate n None
 unfolding cells_of
-cells_none zero b = refl
-cells_none (suc n) b = ap (λ cs. None ∷ cs) (cells_none n (drop 1023 b))
+cells_none zero ss h = refl
+cells_none (suc n) [] h = absurd (omega arith)
+cells_none (suc n) (s ∷ ss) h = ap (λ cs. None ∷ cs) (cells_none n ss (let z : length ss ≡ n = omega arith in z))
 
 pub short_none : (n : ℕ) → Short (replicate n None)
 short_none n k m e = absurd (none_some m (sym (none_at ℕ n k) ∙ e))

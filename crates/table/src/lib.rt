@@ -2,7 +2,11 @@
 #![tactic(auto)]
 
 ghost use Rattle.std.specs.Prelude.{◌≡◌, length, replicate, Some, None, nat_lt, slice_index_or, slice_set};
+ghost use Rattle.std.specs.Borrow.{sem};
+ghost use Rattle.table.specs.Lent.{LendsEntries};
 ghost use Rattle.table.specs.Places.{taken_places};
+
+use std::marker::Model;
 
 pub mod mask;
 
@@ -12,89 +16,81 @@ pub struct Table<'a, E> {
     entries: &'a mut [Option<E>],
 }
 
+// A table is the list of its places.
+impl<'a, E> Model for Table<'a, E> {
+    ghost use Rattle.std.specs.Prelude.{List, Option};
+
+    ghost Value = { List (Option E) };
+
+    ghost view = { λ table. table.entries.now };
+}
+
 impl<'a, E: Copy> Table<'a, E> {
     // A table with every place empty, whatever the lent entries were.
     pub fn new(entries: &'a mut [Option<E>]) -> Table<'a, E>
-        ensures all_empty { result.entries.now ≡ replicate (length entries.old) None }
+        ensures all_empty { result ≡ replicate (length entries.old) None }
     {
-        clear(entries);
+        entries.fill(None);
         Table { entries }
     }
 
     // Empties every place.
     pub fn clear(&mut self)
-        ensures all_empty { self.new.entries.now ≡ replicate (length self.old.entries.now) None }
+        ensures all_empty { self.new ≡ replicate (length self.old) None }
     {
-        clear(self.entries);
+        self.entries.fill(None);
     }
 
     // How many places there are.
     pub fn places(&self) -> usize
-        ensures answer { result ≡ length self.now.entries.now }
+        ensures answer { result ≡ length self.now }
     {
         self.entries.len()
     }
 
     pub fn get(&self, place: usize) -> Option<E>
-        ensures answer { result ≡ slice_index_or self.now.entries.now place None }
+        ensures answer { result ≡ slice_index_or self.now place None }
     {
-        let entries: &[Option<E>] = self.entries;
-        if place < entries.len() {
-            entries[place]
-        } else {
-            None
-        }
+        self.entries.get(place).copied().flatten()
     }
 
     // Puts the entry at the place, over any that stands there; no, and nothing changes, if there is no such place.
     pub fn put(&mut self, place: usize, entry: E) -> bool
-        ensures answer { result ≡ nat_lt place (length self.old.entries.now) }
-        ensures entries_after { self.new.entries.now ≡ slice_set self.old.entries.now place (Some entry) }
+        ensures answer { result ≡ nat_lt place (length self.old) }
+        ensures entries_after { self.new ≡ slice_set self.old place (Some entry) }
     {
-        if place >= self.entries.len() {
-            return false;
+        // An index, and no `get_mut`: the library does not say what the entries are after that.
+        let there = place < self.entries.len();
+        if there {
+            self.entries[place] = Some(entry);
         }
-        self.entries[place] = Some(entry);
-        true
+        there
     }
 
     // Empties the place, and gives what stood there.
     pub fn remove(&mut self, place: usize) -> Option<E>
-        ensures answer { result ≡ slice_index_or self.old.entries.now place None }
-        ensures entries_after { self.new.entries.now ≡ slice_set self.old.entries.now place None }
+        ensures answer { result ≡ slice_index_or self.old place None }
+        ensures entries_after { self.new ≡ slice_set self.old place None }
     {
-        let entry = self.get(place);
-        if place < self.entries.len() {
-            self.entries[place] = None;
+        if place >= self.entries.len() {
+            return None;
         }
-        entry
+        self.entries[place].take()
+    }
+
+    // The places, to change in their order: the table then has the entries that were left there.
+    pub fn entries_mut(&mut self) -> &mut [Option<E>]
+        ensures* writes_back { sem 𝓛 (LendsEntries E.row self.entry result) }
+        ensures value { result.now ≡ self.old }
+    {
+        self.entries // all of them, the empty ones too
     }
 
     // How many places have an entry.
+    #[tactic(auto, using(crate::proofs::Places::taken_counted))]
     pub fn count(&self) -> usize
-        ensures answer { result ≡ taken_places self.now.entries.now }
+        ensures answer { result ≡ taken_places self.now }
     {
-        count_taken(self.entries)
+        self.entries.iter().filter(|entry| entry.is_some()).count()
     }
-}
-
-fn clear<E: Copy>(entries: &mut [Option<E>])
-    ensures all_empty { entries.new ≡ replicate (length entries.old) None }
-{
-    for entry in entries.iter_mut() {
-        *entry = None;
-    }
-}
-
-fn count_taken<E: Copy>(entries: &[Option<E>]) -> usize
-    ensures answer { result ≡ taken_places entries.now }
-{
-    let mut taken: usize = 0;
-    for entry in entries {
-        match entry {
-            Some(_) => taken += 1,
-            None => {}
-        }
-    }
-    taken
 }

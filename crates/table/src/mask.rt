@@ -3,7 +3,7 @@ ghost use Rattle.std.specs.Prelude.{◌≡◌, ℕ, ◌<◌, ◌≤◌, Bool, tr
 ghost use Rattle.table.specs.Masks.{Shows, trues};
 
 // Bit k is set while place k is taken.
-#[derive(Clone, Copy)]
+#[derive(Clone, Copy, PartialEq, Eq, Debug)]
 pub struct Mask {
     bits: u64,
 }
@@ -21,7 +21,7 @@ impl Mask {
         ensures no_such_place { 64 ≤ place → self.new.bits ≡ self.old.bits }
     {
         if place < 64 {
-            self.bits = self.bits | (1u64 << place);
+            self.bits |= 1u64 << place;
         }
     }
 
@@ -29,11 +29,12 @@ impl Mask {
         ensures mask_after { (places : List Bool) → Shows self.old.bits places → Shows self.new.bits (slice_set places place false) }
     {
         if place < 64 {
-            self.bits = self.bits & !(1u64 << place);
+            self.bits &= !(1u64 << place);
         }
     }
 
     // How many places are taken: the ones of the mask.
+    #[tactic(auto, using(crate::proofs::Masks::ones_mask))]
     pub fn count(&self) -> usize
         ensures answer { (places : List Bool) → Shows self.now.bits places → result ≡ trues places }
     {

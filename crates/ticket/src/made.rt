@@ -1,18 +1,18 @@
 // A trade from name=value words.
-use crate::numbers::{read_date, read_days, read_signed, read_time, read_u16, read_units};
+use crate::numbers::{read_date, read_days, read_number, read_signed, read_time, read_units};
 use costs::brokerage::Brokerage;
 use costs::charges::{Charges, Commission};
 use costs::rebate::Rebate;
 use detail::codes::{Place, SettlementKind};
 use detail::detail::{Detail, Settlement};
 use fields::parties::{Isin, Parties};
-use fields::terms::{Nature, Price, Quantity, Side};
+use fields::terms::{Nature, Price, Quantity, Rate, Side};
 use pieces::calendar::{Date, Time};
-use std::io;
+use std::fmt;
 use trade::reading::Trade;
 
 // Why no trade can be made of the words.
-#[derive(Clone, Copy)]
+#[derive(Clone, Copy, PartialEq, Eq, Debug)]
 pub enum Slip {
     // line of the words, the first being 1: it is no name=value, or the name is not known
     Name(usize),
@@ -22,22 +22,18 @@ pub enum Slip {
     Missing(&'static str),
 }
 
-impl Slip {
-    pub fn tell(&self, rt: &HostRuntime) -> io::Result<()> {
+impl fmt::Display for Slip {
+    fn fmt<W: fmt::Write>(&self, f: &mut fmt::Formatter<W>) -> fmt::Result {
         match self {
-            Slip::Name(line) => eprintln!(rt;
-                "ticket: word {line} is no name=value with a name that is known"
-            ),
-            Slip::Value(line) => eprintln!(rt;
-                "ticket: the value of word {line} is not understood"
-            ),
-            Slip::Missing(name) => eprintln!(rt; "ticket: {name} is needed"),
+            Slip::Name(line) => write!(f, "word {line} is no name=value with a name that is known"),
+            Slip::Value(line) => write!(f, "the value of word {line} is not understood"),
+            Slip::Missing(name) => write!(f, "{name} is needed"),
         }
     }
 }
 
 // What the words have said so far.
-#[derive(Clone, Copy)]
+#[derive(Clone, Copy, Default)]
 struct Draft<'a> {
     side: Option<Side>,
     on_exchange: bool,
@@ -63,51 +59,15 @@ struct Draft<'a> {
     expenses: Option<i64>,
     commission: Option<Commission>,
     note: Option<&'a [u8]>,
-    rate: Option<u64>,
+    rate: Option<Rate>,
 }
 
-fn empty_draft<'a>() -> Draft<'a> {
-    Draft {
-        side: None,
-        on_exchange: false,
-        place: None,
-        traded: None,
-        time: None,
-        closing: None,
-        settlement: None,
-        value_date: None,
-        new_issue: false,
-        interest_days: None,
-        discount_days: None,
-        kind: None,
-        nominal: None,
-        isin: None,
-        currency: None,
-        price: None,
-        member: None,
-        with: None,
-        discount: None,
-        bonus: None,
-        brokerage: None,
-        expenses: None,
-        commission: None,
-        note: None,
-        rate: None,
+fn read_yes(s: &[u8]) -> Option<bool> {
+    match s {
+        b"yes" => Some(true),
+        b"no" => Some(false),
+        _ => None,
     }
-}
-
-// Puts a value that was understood.
-fn put<T: Copy>(slot: &mut Option<T>, value: Option<T>) -> bool {
-    if value.is_none() {
-        return false;
-    }
-    *slot = value;
-    true
-}
-
-fn put_yes(slot: &mut bool, value: &[u8]) -> bool {
-    *slot = value == b"yes".as_slice();
-    value == b"yes".as_slice() || value == b"no".as_slice()
 }
 
 fn read_side(s: &[u8]) -> Option<Side> {
@@ -133,30 +93,12 @@ fn read_place(s: &[u8]) -> Option<Place> {
 }
 
 fn read_settlement(s: &[u8]) -> Option<SettlementKind> {
-    match s {
-        b"FO" => Some(SettlementKind::WithoutCountervalue),
-        b"FV" => Some(SettlementKind::WithCountervalue),
-        b"FZ" => Some(SettlementKind::AgainstPayment),
-        _ => None,
-    }
+    SettlementKind::try_from(s).ok()
 }
 
-fn read_three(s: &[u8]) -> Option<[u8; 3]> {
-    if s.len() != 3 {
-        return None;
-    }
-    let mut bytes = [0; 3];
-    bytes.copy_from_slice(s);
-    Some(bytes)
-}
-
-fn read_isin(s: &[u8]) -> Option<[u8; 12]> {
-    if s.len() != 12 {
-        return None;
-    }
-    let mut bytes = [0; 12];
-    bytes.copy_from_slice(s);
-    Some(bytes)
+// So many bytes, neither more nor fewer.
+fn read_exactly<const N: usize>(s: &[u8]) -> Option<[u8; N]> {
+    s.try_into().ok()
 }
 
 fn read_brokerage(s: &[u8]) -> Option<Brokerage> {
@@ -164,75 +106,53 @@ fn read_brokerage(s: &[u8]) -> Option<Brokerage> {
         b"free" => Some(Brokerage::Free),
         b"free_of_all" => Some(Brokerage::FreeOfAll),
         b"half" => Some(Brokerage::Half),
-        _ => Some(Brokerage::Agreed(read_signed(s, 2)?)),
+        _ => read_signed(s, 2).map(Brokerage::Agreed),
     }
 }
 
 fn read_commission(s: &[u8]) -> Option<Commission> {
-    Some(Commission::Amount(read_signed(s, 2)?))
+    read_signed(s, 2).map(Commission::Amount)
 }
 
 fn read_per_mille(s: &[u8]) -> Option<Commission> {
-    Some(Commission::PerMille(read_signed(s, 3)?))
+    read_signed(s, 3).map(Commission::PerMille)
 }
 
 impl<'a> Draft<'a> {
-    // Takes one word in; nothing where the name is not known, else whether its value was understood.
-    fn set(&mut self, name: &[u8], value: &'a [u8]) -> Option<bool> {
-        match self.set_terms(name, value) {
-            Some(understood) => Some(understood),
-            None => match self.set_detail(name, value) {
-                Some(understood) => Some(understood),
-                None => self.set_costs(name, value),
-            },
-        }
-    }
-
-    fn set_terms(&mut self, name: &[u8], value: &'a [u8]) -> Option<bool> {
+    // Takes in the value of the word with this number. One match, since each name has a field and a reader of its own; a table of
+    // functions would hand out function values.
+    fn set(&mut self, name: &[u8], value: &'a [u8], word: usize) -> Result<(), Slip> {
+        let slip = Slip::Value(word);
         match name {
-            b"counterparty" => Some(put(&mut self.side, read_side(value))),
-            b"on_exchange" => Some(put_yes(&mut self.on_exchange, value)),
-            b"kind" => Some(put(&mut self.kind, read_three(value))),
-            b"nominal" => Some(put(&mut self.nominal, read_units(value, 3))),
-            b"isin" => Some(put(&mut self.isin, read_isin(value))),
-            b"currency" => Some(put(&mut self.currency, read_three(value))),
-            b"price" => Some(put(&mut self.price, read_units(value, 4))),
-            b"member" => Some(put(&mut self.member, read_u16(value))),
-            b"with" => Some(put(&mut self.with, read_u16(value))),
-            b"rate" => Some(put(&mut self.rate, read_units(value, 5))),
-            b"note" => {
-                self.note = Some(value);
-                Some(true)
-            }
-            _ => None,
+            b"counterparty" => self.side = Some(read_side(value).ok_or(slip)?),
+            b"on_exchange" => self.on_exchange = read_yes(value).ok_or(slip)?,
+            b"kind" => self.kind = Some(read_exactly(value).ok_or(slip)?),
+            b"nominal" => self.nominal = Some(read_units(value, 3).ok_or(slip)?),
+            b"isin" => self.isin = Some(read_exactly(value).ok_or(slip)?),
+            b"currency" => self.currency = Some(read_exactly(value).ok_or(slip)?),
+            b"price" => self.price = Some(read_units(value, 4).ok_or(slip)?),
+            b"member" => self.member = Some(read_number(value).ok_or(slip)?),
+            b"with" => self.with = Some(read_number(value).ok_or(slip)?),
+            b"rate" => self.rate = Some(Rate::from(read_units(value, 5).ok_or(slip)?)),
+            b"note" => self.note = Some(value),
+            b"place" => self.place = Some(read_place(value).ok_or(slip)?),
+            b"traded" => self.traded = Some(read_date(value).ok_or(slip)?),
+            b"time" => self.time = Some(read_time(value).ok_or(slip)?),
+            b"closing" => self.closing = Some(read_date(value).ok_or(slip)?),
+            b"settlement" => self.settlement = Some(read_settlement(value).ok_or(slip)?),
+            b"value_date" => self.value_date = Some(read_date(value).ok_or(slip)?),
+            b"new_issue" => self.new_issue = read_yes(value).ok_or(slip)?,
+            b"interest_days" => self.interest_days = Some(read_days(value).ok_or(slip)?),
+            b"discount_days" => self.discount_days = Some(read_number(value).ok_or(slip)?),
+            b"discount" => self.discount = Some(read_units(value, 2).ok_or(slip)?),
+            b"bonus" => self.bonus = Some(read_signed(value, 3).ok_or(slip)?),
+            b"brokerage" => self.brokerage = Some(read_brokerage(value).ok_or(slip)?),
+            b"expenses" => self.expenses = Some(read_signed(value, 2).ok_or(slip)?),
+            b"commission" => self.commission = Some(read_commission(value).ok_or(slip)?),
+            b"commission_per_mille" => self.commission = Some(read_per_mille(value).ok_or(slip)?),
+            _ => return Err(Slip::Name(word)),
         }
-    }
-
-    fn set_detail(&mut self, name: &[u8], value: &[u8]) -> Option<bool> {
-        match name {
-            b"place" => Some(put(&mut self.place, read_place(value))),
-            b"traded" => Some(put(&mut self.traded, read_date(value))),
-            b"time" => Some(put(&mut self.time, read_time(value))),
-            b"closing" => Some(put(&mut self.closing, read_date(value))),
-            b"settlement" => Some(put(&mut self.settlement, read_settlement(value))),
-            b"value_date" => Some(put(&mut self.value_date, read_date(value))),
-            b"new_issue" => Some(put_yes(&mut self.new_issue, value)),
-            b"interest_days" => Some(put(&mut self.interest_days, read_days(value))),
-            b"discount_days" => Some(put(&mut self.discount_days, read_u16(value))),
-            _ => None,
-        }
-    }
-
-    fn set_costs(&mut self, name: &[u8], value: &[u8]) -> Option<bool> {
-        match name {
-            b"discount" => Some(put(&mut self.discount, read_units(value, 2))),
-            b"bonus" => Some(put(&mut self.bonus, read_signed(value, 3))),
-            b"brokerage" => Some(put(&mut self.brokerage, read_brokerage(value))),
-            b"expenses" => Some(put(&mut self.expenses, read_signed(value, 2))),
-            b"commission" => Some(put(&mut self.commission, read_commission(value))),
-            b"commission_per_mille" => Some(put(&mut self.commission, read_per_mille(value))),
-            _ => None,
-        }
+        Ok(())
     }
 
     // A value date needs to say how it is settled, and the other way round.
@@ -258,6 +178,7 @@ impl<'a> Draft<'a> {
         })
     }
 
+    // Nothing where neither piece is given; charges likewise. What they share is one condition over fields of two types.
     fn rebate(&self) -> Option<Rebate> {
         if self.discount.is_none() && self.bonus.is_none() {
             return None;
@@ -315,55 +236,25 @@ impl<'a> Draft<'a> {
     }
 }
 
+// A value that must have been given.
 fn needed<T: Copy>(value: Option<T>, name: &'static str) -> Result<T, Slip> {
-    match value {
-        Some(given) => Ok(given),
-        None => Err(Slip::Missing(name)),
-    }
-}
-
-// Where the line that begins at `at` ends.
-fn line_end(s: &[u8], at: usize) -> usize {
-    for i in at..s.len() {
-        if s[i] == b'\n' {
-            return i;
-        }
-    }
-    s.len()
+    value.ok_or(Slip::Missing(name))
 }
 
 // The trade that the words say, one word a line; empty lines are passed over.
 pub fn make_trade<'a>(words: &'a [u8]) -> Result<Trade<'a>, Slip> {
-    let mut made = empty_draft();
-    let mut at = 0;
-    let mut count = 0usize;
-    for _ in 0..words.len() {
-        if at >= words.len() {
-            break;
-        }
-        let end = line_end(words, at);
-        if end < at || end > words.len() {
-            break;
-        }
-        let word = &words[at..end];
-        at = end.saturating_add(1);
-        if word.len() > 0 {
-            count = count.saturating_add(1);
-            take_word(&mut made, word, count)?;
-        }
+    let mut made = Draft::default();
+    let given = words.split(|b| *b == b'\n').filter(|word| !word.is_empty());
+    for (i, word) in given.enumerate() {
+        take_word(&mut made, word, i.saturating_add(1))?;
     }
     made.trade()
 }
 
 fn take_word<'a>(made: &mut Draft<'a>, word: &'a [u8], count: usize) -> Result<(), Slip> {
-    for i in 0..word.len() {
-        if word[i] == b'=' {
-            return match made.set(&word[0..i], &word[i + 1..word.len()]) {
-                Some(true) => Ok(()),
-                Some(false) => Err(Slip::Value(count)),
-                None => Err(Slip::Name(count)),
-            };
-        }
+    let mut parts = word.splitn(2, |b| *b == b'=');
+    match (parts.next(), parts.next()) {
+        (Some(name), Some(value)) => made.set(name, value, count),
+        _ => Err(Slip::Name(count)),
     }
-    Err(Slip::Name(count))
 }

@@ -6,21 +6,54 @@ mod numbers;
 mod refused;
 mod told;
 
-use made::make_trade;
+use made::{Slip, make_trade};
 use refused::{tell_text_fault, tell_write_fault};
+use std::alloc::AllocError;
 use std::io::{Read, Write};
 use std::process::ExitCode;
-use std::{env, fs, io};
+use std::{env, fmt, fs, io};
 use told::tell_trade;
 use trade::reading::{Trade, read_trade};
 
-// What went wrong has been told on standard error, so a failure says no more.
+// Why a call fails.
+#[derive(Drop)]
+enum Failure {
+    // no memory, or standard input or output gives out
+    Stream(io::Error),
+    // the file of this name cannot be read
+    File(String, io::Error),
+    // the words of --make say no trade
+    Words(Slip),
+}
+
+impl From<io::Error> for Failure {
+    fn from(e: io::Error) -> Failure {
+        Failure::Stream(e)
+    }
+}
+
+impl From<AllocError> for Failure {
+    fn from(e: AllocError) -> Failure {
+        Failure::Stream(e.into())
+    }
+}
+
+impl fmt::Display for Failure {
+    fn fmt<W: fmt::Write>(&self, f: &mut fmt::Formatter<W>) -> fmt::Result {
+        match self {
+            Failure::Stream(e) => write!(f, "{e}"),
+            Failure::File(name, e) => write!(f, "cannot read {name}: {e}"),
+            Failure::Words(slip) => write!(f, "{slip}"),
+        }
+    }
+}
+
+// What went wrong is told on standard error. (inspect ends likewise; a program is a crate of its own.)
 fn main(rt: HostRuntime) -> ExitCode {
     match run(&rt) {
-        Ok(true) => ExitCode::SUCCESS,
-        Ok(false) => ExitCode::FAILURE,
-        Err(e) => {
-            let _told = eprintln!(rt; "ticket: {e}").is_ok();
+        Ok(status) => status,
+        Err(failure) => {
+            let _told = eprintln!(rt; "ticket: {failure}").is_ok();
             ExitCode::FAILURE
         }
     }
@@ -49,76 +82,57 @@ fn usage(rt: &HostRuntime) -> io::Result<()> {
     )
 }
 
-// Whether all went well; if not, standard error has been told why.
-fn run(rt: &HostRuntime) -> io::Result<bool> {
+// The files and words of the call, in their order.
+fn run(rt: &HostRuntime) -> Result<ExitCode, Failure> {
     let heap = rt.alloc();
     let mut words = env::args(rt)?;
     let _program = words.next();
     let mut making = false;
     let mut any = false;
     let mut given = Vec::new(heap);
-    for _ in 0..u64::MAX {
-        let Some(word) = words.next() else {
-            break;
-        };
+    for word in words {
         if making {
-            if !gather(rt, &mut given, word.as_str())? {
-                return Ok(false);
-            }
+            gather(rt, &mut given, word)?;
         } else if word.as_str() == "--make" {
             making = true;
+        } else if word.as_str() == "--help" || word.as_str() == "-h" {
+            usage(rt)?;
+            return Ok(ExitCode::SUCCESS);
         } else if word.as_str().starts_with('-') {
             usage(rt)?;
-            return Ok(word.as_str() == "--help" || word.as_str() == "-h");
+            return Ok(ExitCode::FAILURE);
         } else {
             any = true;
-            if !tell_file(rt, word.as_str())? {
-                return Ok(false);
-            }
+            tell_text(rt, &read_file(rt, word)?)?;
         }
     }
     if making {
-        return make_text(rt, &given);
-    }
-    if !any {
+        // a match: `?` on a trade, which borrows its words and has a rate with a model, is not covered by the check
+        match make_trade(&given) {
+            Ok(trade) => write_text(rt, &trade)?,
+            Err(slip) => return Err(Failure::Words(slip)),
+        }
+    } else if !any {
         let mut text = Vec::new(heap);
         rt.stdin().read_to_end(&mut text)?;
         tell_text(rt, &text)?;
     }
-    Ok(true)
+    Ok(ExitCode::SUCCESS)
+}
+
+fn read_file(rt: &HostRuntime, name: String) -> Result<Vec<u8>, Failure> {
+    fs::read(rt, name.as_str()).map_err(|e| Failure::File(name, e))
 }
 
 // A word of --make, or the words of a file, one a line.
-fn gather(rt: &HostRuntime, given: &mut Vec<u8>, word: &str) -> io::Result<bool> {
-    if word.contains('=') {
+fn gather(rt: &HostRuntime, given: &mut Vec<u8>, word: String) -> Result<(), Failure> {
+    if word.as_str().contains('=') {
         given.extend_from_slice(word.as_bytes())?;
-        given.push(b'\n')?;
-        return Ok(true);
+    } else {
+        given.extend_from_slice(&read_file(rt, word)?)?;
     }
-    match fs::read(rt, word) {
-        Ok(bytes) => {
-            given.extend_from_slice(&bytes)?;
-            given.push(b'\n')?;
-            Ok(true)
-        }
-        Err(e) => {
-            eprintln!(rt; "ticket: cannot read {word}: {e}")?;
-            Ok(false)
-        }
-    }
-}
-
-fn tell_file(rt: &HostRuntime, name: &str) -> io::Result<bool> {
-    match fs::read(rt, name) {
-        Ok(text) => {
-            tell_text(rt, &text)?;
-            Ok(true)
-        }
-        Err(e) => {
-            eprintln!(rt; "ticket: cannot read {name}: {e}")?;
-            Ok(false)
-        }
-    }
+    given.extend_from_slice(b"\n")?;
+    Ok(())
 }
 
 // A text in plain words, and as we would write it; or why it is refused.
@@ -129,33 +143,15 @@ fn tell_text(rt: &HostRuntime, text: &[u8]) -> io::Result<()> {
             println!(rt; "as we would write it:")?;
             write_text(rt, &trade)
         }
-        Err(fault) => tell_text_fault(rt, text, fault.refusal()),
+        Err(fault) => tell_text_fault(rt, text, fault.into()),
     }
 }
 
-// The text of a trade, as it goes to the exchange.
+// The text of a trade, as it goes to the exchange. Its memory is lent from here, since a library call allocates nothing.
 fn write_text(rt: &HostRuntime, trade: &Trade<'_>) -> io::Result<()> {
     let mut out = [0u8; 320];
     match trade.write(&mut out) {
-        Ok(n) => {
-            if n <= 320 {
-                rt.stdout().write_all(&out[0..n])?;
-            }
-            Ok(())
-        }
-        Err(fault) => tell_write_fault(rt, fault.refusal()),
-    }
-}
-
-fn make_text(rt: &HostRuntime, given: &[u8]) -> io::Result<bool> {
-    match make_trade(given) {
-        Ok(trade) => {
-            write_text(rt, &trade)?;
-            Ok(true)
-        }
-        Err(slip) => {
-            slip.tell(rt)?;
-            Ok(false)
-        }
+        Ok(n) => rt.stdout().write_all(out.get(..n).unwrap_or_default()),
+        Err(fault) => tell_write_fault(rt, fault.into()),
     }
 }

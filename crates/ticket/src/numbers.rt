@@ -1,68 +1,45 @@
 // Numbers, dates and times as people write them.
 use pieces::calendar::{Date, Time};
 
+// The number whose digits are those of n and one more.
+fn with_digit(n: u64, b: u8) -> Option<u64> {
+    let digit = char::from(b).to_digit(10)?;
+    n.checked_mul(10)?.checked_add(u64::from(digit))
+}
+
 // A number of digits alone.
-pub fn read_whole(s: &[u8]) -> Option<u64> {
-    if s.len() == 0 {
+fn read_whole(s: &[u8]) -> Option<u64> {
+    if s.is_empty() {
         return None;
     }
-    let mut value: u64 = 0;
-    for b in s {
-        if *b < b'0' || *b > b'9' {
-            return None;
-        }
-        value = value.checked_mul(10)?.checked_add((*b - b'0') as u64)?;
-    }
-    Some(value)
+    s.iter().try_fold(0, |n, b| with_digit(n, *b))
 }
 
-pub fn read_u16(s: &[u8]) -> Option<u16> {
-    u16::try_from(read_whole(s)?).ok()
-}
-
-fn read_u8(s: &[u8]) -> Option<u8> {
-    u8::try_from(read_whole(s)?).ok()
-}
-
-// Where the first of these bytes stands.
-fn place_of(s: &[u8], a: u8, b: u8) -> Option<usize> {
-    for i in 0..s.len() {
-        if s[i] == a || s[i] == b {
-            return Some(i);
-        }
-    }
-    None
+// A number of digits alone that its type holds.
+pub fn read_number<N: TryFrom<u64>>(s: &[u8]) -> Option<N>
+where
+    N::Error: Drop,
+{
+    N::try_from(read_whole(s)?).ok()
 }
 
 // A number such as 12, 12.5 or 12,5, in units of so many decimal places.
 pub fn read_units(s: &[u8], places: usize) -> Option<u64> {
-    let (whole, fraction) = match place_of(s, b'.', b',') {
-        Some(i) if i < s.len() => (&s[0..i], &s[i + 1..s.len()]),
-        _ => (s, &s[0..0]),
+    let (whole, fraction) = match s.iter().position(|b| *b == b'.' || *b == b',') {
+        Some(i) => (s.get(..i)?, s.get(i.saturating_add(1)..)?),
+        None => (s, &s[..0]),
     };
-    if fraction.len() > places {
-        return None;
-    }
-    let mut value = read_whole(whole)?;
-    for b in fraction {
-        if *b < b'0' || *b > b'9' {
-            return None;
-        }
-        value = value.checked_mul(10)?.checked_add((*b - b'0') as u64)?;
-    }
-    for _ in fraction.len()..places {
-        value = value.checked_mul(10)?;
-    }
-    Some(value)
+    let zeros = places.checked_sub(fraction.len())?;
+    let value = fraction
+        .iter()
+        .try_fold(read_whole(whole)?, |n, b| with_digit(n, *b))?;
+    (0..zeros).try_fold(value, |n: u64, _| n.checked_mul(10))
 }
 
 // The same with a minus in front, or not.
 pub fn read_signed(s: &[u8], places: usize) -> Option<i64> {
     match s.strip_prefix(b"-") {
-        Some(size) => {
-            let size = i64::try_from(read_units(size, places)?).ok()?;
-            size.checked_neg()
-        }
+        Some(size) => i64::try_from(read_units(size, places)?).ok()?.checked_neg(),
         None => i64::try_from(read_units(s, places)?).ok(),
     }
 }
@@ -77,9 +54,9 @@ pub fn read_date(s: &[u8]) -> Option<Date> {
         return None;
     }
     Some(Date {
-        year: read_u16(&s[0..4])?,
-        month: read_u8(&s[5..7])?,
-        day: read_u8(&s[8..10])?,
+        year: read_number(&s[0..4])?,
+        month: read_number(&s[5..7])?,
+        day: read_number(&s[8..10])?,
     })
 }
 
@@ -89,7 +66,7 @@ pub fn read_time(s: &[u8]) -> Option<Time> {
         return None;
     }
     Some(Time {
-        hour: read_u8(&s[0..2])?,
-        minute: read_u8(&s[3..5])?,
+        hour: read_number(&s[0..2])?,
+        minute: read_number(&s[3..5])?,
     })
 }

@@ -2,13 +2,52 @@
 use costs::brokerage::Brokerage;
 use costs::charges::{Charges, Commission};
 use costs::rebate::Rebate;
-use detail::codes::{Place, SettlementKind};
 use detail::detail::Detail;
 use fields::terms::Side;
-use pieces::calendar::Date;
-use std::io;
+use pieces::decimals::Scale;
 use std::io::Write;
+use std::{fmt, io};
 use trade::reading::Trade;
+
+// A number of units of a scale, as people write it: `12.5000`.
+#[derive(Clone, Copy, PartialEq, Eq, Debug)]
+struct Figure {
+    units: u64,
+    negative: bool,
+    scale: Scale,
+}
+
+impl Figure {
+    fn plain(units: u64, scale: Scale) -> Figure {
+        Figure {
+            units,
+            negative: false,
+            scale,
+        }
+    }
+
+    fn signed(amount: i64, scale: Scale) -> Figure {
+        Figure {
+            units: amount.unsigned_abs(),
+            negative: amount < 0,
+            scale,
+        }
+    }
+}
+
+impl fmt::Display for Figure {
+    fn fmt<W: fmt::Write>(&self, f: &mut fmt::Formatter<W>) -> fmt::Result {
+        let sign = if self.negative { "-" } else { "" };
+        let unit = self.scale.unit().max(1);
+        let places = self.scale.places();
+        write!(
+            f,
+            "{sign}{}.{:0places$}",
+            self.units / unit,
+            self.units % unit
+        )
+    }
+}
 
 pub fn tell_trade(rt: &HostRuntime, trade: &Trade<'_>) -> io::Result<()> {
     tell_parties(rt, trade)?;
@@ -16,12 +55,12 @@ pub fn tell_trade(rt: &HostRuntime, trade: &Trade<'_>) -> io::Result<()> {
     tell_bytes(rt, &trade.security.bytes)?;
     print!(rt; "kind          ")?;
     tell_bytes(rt, &trade.quantity.kind)?;
-    let n = trade.quantity.nominal;
-    println!(rt; "nominal       {}.{:03}", n / 1000, n % 1000)?;
+    let nominal = Figure::plain(trade.quantity.nominal, Scale::Thousandths);
+    println!(rt; "nominal       {nominal}")?;
     print!(rt; "currency      ")?;
     tell_bytes(rt, &trade.price.currency)?;
-    let p = trade.price.amount;
-    println!(rt; "price         {}.{:04}", p / 10000, p % 10000)?;
+    let price = Figure::plain(trade.price.amount, Scale::TenThousandths);
+    println!(rt; "price         {price}")?;
     tell_detail(rt, &trade.detail)?;
     if let Some(rebate) = trade.rebate {
         tell_rebate(rt, &rebate)?;
@@ -33,7 +72,8 @@ pub fn tell_trade(rt: &HostRuntime, trade: &Trade<'_>) -> io::Result<()> {
         tell_charges(rt, &charges)?;
     }
     if let Some(rate) = trade.rate {
-        println!(rt; "exchange rate {}.{:05}", rate / 100000, rate % 100000)?;
+        let rate = Figure::plain(u64::from(rate), Scale::HundredThousandths);
+        println!(rt; "exchange rate {rate}")?;
     }
     if let Some(note) = trade.note {
         print!(rt; "note          ")?;
@@ -67,44 +107,20 @@ fn tell_parties(rt: &HostRuntime, trade: &Trade<'_>) -> io::Result<()> {
     println!(rt; "made          {made}")
 }
 
-fn place_name(place: Place) -> &'static str {
-    match place {
-        Place::Berlin => "Berlin (100)",
-        Place::Duesseldorf => "Duesseldorf (120)",
-        Place::Frankfurt => "Frankfurt (130)",
-        Place::Hamburg => "Hamburg (140)",
-        Place::Hannover => "Hannover (150)",
-        Place::Munich => "Munich (160)",
-        Place::Stuttgart => "Stuttgart (170)",
-    }
-}
-
-fn settlement_name(kind: SettlementKind) -> &'static str {
-    match kind {
-        SettlementKind::WithoutCountervalue => "FO, countervalue not cleared",
-        SettlementKind::WithCountervalue => "FV, countervalue cleared",
-        SettlementKind::AgainstPayment => "FZ, delivery against payment",
-    }
-}
-
-fn tell_date(rt: &HostRuntime, name: &str, date: Date) -> io::Result<()> {
-    println!(rt; "{name}{}-{:02}-{:02}", date.year, date.month, date.day)
-}
-
 fn tell_detail(rt: &HostRuntime, detail: &Detail) -> io::Result<()> {
-    println!(rt; "place         {}", place_name(detail.place))?;
+    println!(rt; "place         {}", detail.place)?;
     if let Some(date) = detail.traded {
-        tell_date(rt, "trade date    ", date)?;
+        println!(rt; "trade date    {date}")?;
     }
     if let Some(time) = detail.time {
-        println!(rt; "time          {:02}:{:02}", time.hour, time.minute)?;
+        println!(rt; "time          {time}")?;
     }
     if let Some(date) = detail.closing {
-        tell_date(rt, "closing date  ", date)?;
+        println!(rt; "closing date  {date}")?;
     }
     if let Some(settlement) = detail.settlement {
-        println!(rt; "settlement    {}", settlement_name(settlement.kind))?;
-        tell_date(rt, "value date    ", settlement.value_date)?;
+        println!(rt; "settlement    {}", settlement.kind)?;
+        println!(rt; "value date    {}", settlement.value_date)?;
     }
     if detail.new_issue {
         println!(rt; "issue         part of a new issue (EM)")?;
@@ -118,39 +134,24 @@ fn tell_detail(rt: &HostRuntime, detail: &Detail) -> io::Result<()> {
     Ok(())
 }
 
-// A signed amount in hundredths or thousandths.
-fn sign_of(amount: i64) -> &'static str {
-    if amount < 0 { "-" } else { "" }
-}
-
-fn hundredths(rt: &HostRuntime, name: &str, amount: i64) -> io::Result<()> {
-    let size = amount.unsigned_abs();
-    println!(rt; "{name}{}{}.{:02}", sign_of(amount), size / 100, size % 100)
-}
-
-fn thousandths(rt: &HostRuntime, name: &str, amount: i64, unit: &str) -> io::Result<()> {
-    let size = amount.unsigned_abs();
-    println!(rt;
-        "{name}{}{}.{:03}{unit}",
-        sign_of(amount),
-        size / 1000,
-        size % 1000
-    )
-}
-
 fn tell_rebate(rt: &HostRuntime, rebate: &Rebate) -> io::Result<()> {
     if let Some(discount) = rebate.discount {
-        println!(rt; "discount      {}.{:02}", discount / 100, discount % 100)?;
+        let discount = Figure::plain(discount, Scale::Hundredths);
+        println!(rt; "discount      {discount}")?;
     }
     if let Some(bonus) = rebate.bonus {
-        thousandths(rt, "bonus rate    ", bonus, " percent")?;
+        let bonus = Figure::signed(bonus, Scale::Thousandths);
+        println!(rt; "bonus rate    {bonus} percent")?;
     }
     Ok(())
 }
 
 fn tell_brokerage(rt: &HostRuntime, brokerage: Brokerage) -> io::Result<()> {
     match brokerage {
-        Brokerage::Agreed(amount) => hundredths(rt, "brokerage     agreed, ", amount),
+        Brokerage::Agreed(amount) => {
+            let amount = Figure::signed(amount, Scale::Hundredths);
+            println!(rt; "brokerage     agreed, {amount}")
+        }
         Brokerage::Free => println!(rt; "brokerage     none (FC)"),
         Brokerage::FreeOfAll => println!(rt;
             "brokerage     none, and no expenses and no commission (FR)"
@@ -161,11 +162,18 @@ fn tell_brokerage(rt: &HostRuntime, brokerage: Brokerage) -> io::Result<()> {
 
 fn tell_charges(rt: &HostRuntime, charges: &Charges) -> io::Result<()> {
     if let Some(expenses) = charges.expenses {
-        hundredths(rt, "expenses      ", expenses)?;
+        let expenses = Figure::signed(expenses, Scale::Hundredths);
+        println!(rt; "expenses      {expenses}")?;
     }
     match charges.commission {
-        Some(Commission::Amount(amount)) => hundredths(rt, "commission    ", amount),
-        Some(Commission::PerMille(rate)) => thousandths(rt, "commission    ", rate, " per mille"),
+        Some(Commission::Amount(amount)) => {
+            let amount = Figure::signed(amount, Scale::Hundredths);
+            println!(rt; "commission    {amount}")
+        }
+        Some(Commission::PerMille(rate)) => {
+            let rate = Figure::signed(rate, Scale::Thousandths);
+            println!(rt; "commission    {rate} per mille")
+        }
         None => Ok(()),
     }
 }

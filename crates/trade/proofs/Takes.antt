@@ -1,5 +1,5 @@
 -- A field's contents go into the trade.
-use Rattle.std.proofs.Common.{◌≡◌, ℕ, List, Ok, Err, Result, sym, refl, ap, ◌∙◌, subst, arith, Bor}
+use Rattle.std.proofs.Common.{◌≡◌, ℕ, List, Ok, Err, Result, MatchResult, IsErrAnd, sym, refl, ap, ◌∙◌, subst, arith, Bor}
 use Rattle.notation.specs.declared.refusals.FieldFault.{FieldFault}
 use Rattle.notation.specs.declared.refusals.Why.{Why}
 use Rattle.pieces.specs.Rows.{Row, Reads}
@@ -19,13 +19,6 @@ module _ {T U : Type 0} (see : Result U Why → Result T Why) (ok : U → T) (se
       let g : f ≡ record { why = x; offset = at } = cc in
       (subst (λ y. Reads row s (Err y)) (sym (ap (λ y. y.why) g)) (subst (Reads row s) (see-err x) h), ap (λ y. y.offset) g)
 
-module _ {T : Type 0} (row : Row T) (s : List ℕ) where
-  pub ok_placed : (q : Result T Why) (at : ℕ) (v : T) → ◌≡◌ {A = Result T FieldFault} (Ok v) (placed q at) → Reads row s q → Reads row s (Ok v)
-  ok_placed = ok_seen (λ q. q) (λ u. u) (λ u. refl) (λ e. refl) row s
-
-  pub err_placed : (q : Result T Why) (at : ℕ) (e : FieldFault) → ◌≡◌ {A = Result T FieldFault} (Err e) (placed q at) → Reads row s q → Reads row s (Err e.why) × (e.offset ≡ at)
-  err_placed = err_seen (λ q. q) (λ u. u) (λ u. refl) (λ e. refl) row s
-
 pub ok_note : (s : List ℕ) (q : Result (Bor (List ℕ)) Why) (at : ℕ) (u : Bor (List ℕ)) → ◌≡◌ {A = Result (Bor (List ℕ)) FieldFault} (Ok u) (placed q at) → Reads row72 s (seen_ok q) → Reads row72 s (Ok u.now)
 ok_note s = ok_seen seen_ok (λ u. u.now) (λ u. refl) (λ e. refl) row72 s
 
@@ -35,5 +28,6 @@ err_note s = err_seen seen_ok (λ u. u.now) (λ u. refl) (λ e. refl) row72 s
 pub taken_as : (f g : Field) (before after : Trade) → f ≡ g → Taken g before after → Taken f before after
 taken_as f g before after e h = subst (λ x. Taken x before after) (sym e) h
 
-pub refused_as : (f g : Field) (x : FieldFault) → f ≡ g → Refused g x → Refused f x
-refused_as f g x e h = subst (λ y. Refused y x) (sym e) h
+pub refused_in : (f g : Field) (before : Trade) (r : Result Unit FieldFault) (x : FieldFault) → f ≡ g → IsErrAnd r (λ y. y ≡ x) → Refused g x → MatchResult r (λ _. Taken f before before) (λ y. Refused f y × (before ≡ before))
+refused_in f g before (Ok u) x e h k = absurd h
+refused_in f g before (Err y) x e h k = (subst (λ z. Refused z y) (sym e) (subst (Refused g) (sym h) k), refl)

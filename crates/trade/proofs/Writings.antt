@@ -1,9 +1,9 @@
 -- How the fields of a trade are judged and written in turn.
-use Rattle.std.proofs.Common.{◌≡◌, ℕ, ◌+◌, ◌≤◌, List, [], ◌∷◌, ◌++◌, length, take, drop, Some, None, Ok, Err, Option, Result, sym, refl, ap, ◌∙◌, subst, arith}
+use Rattle.std.proofs.Common.{◌≡◌, ℕ, ◌+◌, ◌≤◌, List, [], ◌∷◌, ◌++◌, length, take, drop, Some, None, Ok, Err, Option, Result, sym, refl, ap, ◌∙◌, subst, arith, ok_or}
 use Rattle.std.proofs.lemmas.List.{append_assoc, drop_all, take_all}
 use Rattle.notation.specs.declared.refusals.FieldFault.{FieldFault}
 use Rattle.notation.specs.declared.refusals.Why.{Why}
-use Rattle.pieces.specs.Rows.{Judged}
+use Rattle.pieces.specs.Rows.{Row, Judged, text_of}
 use Rattle.pieces.specs.Scratches.{room, held, Grown, Copied}
 use Rattle.pieces.specs.declared.scratch.Scratch.{Scratch}
 use Rattle.pieces.proofs.Growing.{grown_on, grown_none, take_joined}
@@ -13,21 +13,22 @@ use Rattle.trade.specs.declared.writing.WriteFault.{WriteFault}
 use Rattle.trade.specs.declared.writing.WriteFault.TheVariants.{Contents, Short}
 use Rattle.trade.specs.Deals.{Deal, label, Meaning, row_of, get, text, table}
 use Rattle.trade.specs.Views.{placed}
-use Rattle.trade.specs.Writing.{line, written, whole, good, bad, JudgedField, Checked, Lined, Wrote}
+use Rattle.trade.specs.Writing.{line, written, whole, good, bad, JudgedField, Checked, Lined, LinedAs, Wrote}
 use Rattle.trade.proofs.Round.{checked_fine, whole_short}
 
 -- a field that stands
-pub line_grown : (k : Kind) (v : Meaning k) (a b c d : Scratch) → Judged (row_of k) v None → Grown a b (label k) → Grown b c (text k v) → Grown c d (13 ∷ 10 ∷ []) → Lined k (Some v) a d (Ok tt)
-line_grown k v a b c d j g h i = (j, grown_on a b d (label k) (text k v ++ 13 ∷ 10 ∷ []) g (grown_on b c d (text k v) (13 ∷ 10 ∷ []) h i))
+pub line_grown : {T : Type 0} (row : Row T) (l : List ℕ) (v : T) (a b c d : Scratch) → Judged row v None → Grown a b l → Grown b c (text_of row v) → Grown c d (13 ∷ 10 ∷ []) → LinedAs row l (Some v) a d (Ok tt)
+line_grown row l v a b c d j g h i = (j, grown_on a b d l (text_of row v ++ 13 ∷ 10 ∷ []) g (grown_on b c d (text_of row v) (13 ∷ 10 ∷ []) h i))
 
-pub lined_none : (k : Kind) (o : Option (Meaning k)) (a : Scratch) → o ≡ None → Lined k o a a (Ok tt)
-lined_none k o a e = subst (λ x. Lined k x a a (Ok tt)) (sym e) (grown_none a)
+pub lined_none : {T : Type 0} (row : Row T) (l : List ℕ) (o : Option T) (a : Scratch) → o ≡ None → LinedAs row l o a a (Ok tt)
+lined_none row l o a e = subst (λ x. LinedAs row l x a a (Ok tt)) (sym e) (grown_none a)
 
-pub lined_some : (k : Kind) (o : Option (Meaning k)) (v : Meaning k) (a b : Scratch) (r : Result Unit Why) → o ≡ Some v → Lined k (Some v) a b r → Lined k o a b r
-lined_some k o v a b r e h = subst (λ x. Lined k x a b r) (sym e) h
+pub lined_some : {T : Type 0} (row : Row T) (l : List ℕ) (o : Option T) (v : T) (a b : Scratch) (r : Result Unit Why) → o ≡ Some v → LinedAs row l (Some v) a b r → LinedAs row l o a b r
+lined_some row l o v a b r e h = subst (λ x. LinedAs row l x a b r) (sym e) h
 
-pub lined_at : (d : Deal) (k j : Kind) (a b : Scratch) (r : Result Unit Why) → k ≡ j → Lined j (get j d) a b r → Lined k (get k d) a b r
-lined_at d k j a b r e h = subst (λ y. Lined y (get y d) a b r) (sym e) h
+-- the line of a kind, under the label of that kind
+pub lined_at : (d : Deal) (k j : Kind) (a b : Scratch) (r : Result Unit Why) (l : List ℕ) → k ≡ j → l ≡ label k → LinedAs (row_of j) l (get j d) a b r → Lined k (get k d) a b r
+lined_at d k j a b r l e m h = subst (λ y. Lined y (get y d) a b r) (sym e) (subst (λ x. LinedAs (row_of j) x (get j d) a b r) (m ∙ ap label e) h)
 
 -- one row
 module _ (rows : List Line) (i : ℕ) (x : Line) (e : drop i rows ≡ x ∷ drop (i + 1) rows) (d : Deal) where
@@ -77,3 +78,8 @@ wrote_short d s before after e c k = subst (λ t. Copied t before after None →
 
 pub wrote_bad : (d : Deal) (out : List ℕ) (r : Result ℕ WriteFault) (y : WriteFault) (f : FieldFault) → r ≡ Err y → y ≡ Contents f → Checked table d (Some f.why) × (f.offset ≡ 0) → Wrote table d out out r
 wrote_bad d out r y f p q h = subst (λ x. Wrote table d out out x) (sym (p ∙ ap Err q)) (h.0, h.1, refl)
+
+-- the scratch was copied out, or did not fit
+pub wrote_copied : (d : Deal) (text o o' : List ℕ) (q : Option ℕ) (r : Result ℕ WriteFault) → text ≡ whole d → Checked table d None → Copied text o o' q → r ≡ ok_or q Short → Wrote table d o o' r
+wrote_copied d text o o' (Some n) r e k c h = subst (Wrote table d o o') (sym h) (wrote_all d text o o' n e k c)
+wrote_copied d text o o' None r e k c h = subst (Wrote table d o o') (sym h) (wrote_short d text o o' e k c)

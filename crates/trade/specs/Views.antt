@@ -19,7 +19,7 @@ use Rattle.trade.specs.declared.rows.Kind.{Kind}
 use Rattle.trade.specs.declared.rows.Kind.TheVariants.{Nature as KNature, Detail as KDetail, Quantity as KQuantity, Security as KSecurity, Price as KPrice, Parties as KParties, Rebate as KRebate, Brokerage as KBrokerage, Charges as KCharges, Note as KNote, Rate as KRate}
 use Rattle.walk.specs.Lines.{Endless}
 use Rattle.walk.specs.Walk.{left, Absent, Moved}
-use Rattle.walk.specs.declared.reader.Part.{Part}
+use Rattle.notation.specs.declared.part.Part.{Part}
 use Rattle.walk.specs.declared.reader.Reader.{Reader}
 
 abbrev pub kind_of : Field → Kind

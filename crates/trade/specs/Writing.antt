@@ -4,7 +4,7 @@ use Rattle.notation.specs.Refusals.{refused, field_refusal}
 use Rattle.notation.specs.declared.refusals.Layer.TheVariants.{Line as LineLayer}
 use Rattle.notation.specs.declared.refusals.Refusal.{Refusal}
 use Rattle.notation.specs.declared.refusals.Why.{Why}
-use Rattle.pieces.specs.Rows.{Judged}
+use Rattle.pieces.specs.Rows.{Row, Judged, text_of}
 use Rattle.pieces.specs.Scratches.{Grown}
 use Rattle.pieces.specs.declared.scratch.Scratch.{Scratch}
 use Rattle.trade.specs.Deals.{Deal, label, Meaning, row_of, get, text, table}
@@ -39,12 +39,16 @@ abbrev pub Checked : List Line → Deal → Option Why → Type 0
 Checked [] d r = r ≡ None
 Checked (row ∷ rows) d r = JudgedField row.kind (get row.kind d) (Checked rows d) r
 
+-- what a row's field, if it stands, was judged and how it was written: label, contents, CR, LF
+abbrev pub LinedAs : {T : Type 0} → Row T → List ℕ → Option T → Scratch → Scratch → Result Unit Why → Type 0
+LinedAs row l None before after (Ok u) = Grown before after []
+LinedAs row l None before after (Err e) = ⊥
+LinedAs row l (Some v) before after (Ok u) = Judged row v None × Grown before after (l ++ (text_of row v ++ 13 ∷ 10 ∷ []))
+LinedAs row l (Some v) before after (Err e) = Judged row v (Some e)
+
 -- a field that was judged, and written if it is good
 abbrev pub Lined : (k : Kind) → Option (Meaning k) → Scratch → Scratch → Result Unit Why → Type 0
-Lined k None before after (Ok u) = Grown before after []
-Lined k None before after (Err e) = ⊥
-Lined k (Some v) before after (Ok u) = Judged (row_of k) v None × Grown before after (line k (Some v))
-Lined k (Some v) before after (Err e) = Judged (row_of k) v (Some e)
+Lined k field before after r = LinedAs (row_of k) (label k) field before after r
 
 -- what an output holds after a trade was written into it, or refused: 20 after all others
 abbrev pub Wrote : List Line → Deal → List ℕ → List ℕ → Result ℕ WriteFault → Type 0

@@ -1,24 +1,25 @@
 // The trade that a text means.
-ghost use Rattle.std.specs.Prelude.{◌≡◌, MatchResult};
+ghost use Rattle.std.specs.Prelude.{◌≡◌, Ok, Err, MatchResult};
+ghost use Rattle.pieces.specs.Rows.{Reads};
 ghost use Rattle.trade.specs.Deals.{blank};
 ghost use Rattle.trade.specs.Texts.{Text, Answers};
 ghost use Rattle.trade.specs.Views.{view, viewed, placed, Taken, Refused};
 
 use crate::rows::{Field, Line, next_field, rows};
-use costs::brokerage::{Brokerage, read_brokerage};
-use costs::charges::{Charges, read_charges};
-use costs::rebate::{Rebate, read_rebate};
+use costs::brokerage::Brokerage;
+use costs::charges::Charges;
+use costs::rebate::Rebate;
 use detail::codes::Place;
-use detail::detail::{Detail, read_detail};
-use fields::parties::{Isin, Parties, read_isin, read_note, read_parties};
-use fields::terms::{
-    Nature, Price, Quantity, Side, read_nature, read_price, read_quantity, read_rate,
-};
+use detail::detail::Detail;
+use fields::parties::{Isin, Parties, read_note};
+use fields::terms::{Nature, Price, Quantity, Rate, Side};
+use notation::part::Part;
 use notation::refusals::{FieldFault, TextFault, Why};
+use pieces::contents::Contents;
 use walk::reader::Reader;
 
 // A direct trade: a field for each row of the format table, in its order.
-#[derive(Clone, Copy)]
+#[derive(Clone, Copy, PartialEq, Eq, Debug)]
 pub struct Trade<'a> {
     pub nature: Nature,
     pub detail: Detail,
@@ -31,18 +32,22 @@ pub struct Trade<'a> {
     pub charges: Option<Charges>,
     // free text of 1 to 30 characters
     pub note: Option<&'a [u8]>,
-    // the exchange rate, in hundred-thousandths
-    pub rate: Option<u64>,
+    // the exchange rate
+    pub rate: Option<Rate>,
 }
 
 // A fault of contents at their place in the text.
 pub(crate) fn placed_at<T>(r: Result<T, Why>, offset: usize) -> Result<T, FieldFault>
     ensures { result ≡ placed r offset }
 {
-    match r {
-        Ok(v) => Ok(v),
-        Err(why) => Err(FieldFault { why, offset }),
-    }
+    r.map_err(|why| FieldFault { why, offset })
+}
+
+// What a field's contents mean, or their fault at their place in the text.
+fn read_part<F: Contents>(part: Part<'_>) -> Result<F, FieldFault>
+    ensures { MatchResult result (λ v. Reads F.format part.entry.bytes.now (Ok v)) (λ e. Reads F.format part.entry.bytes.now (Err e.why) × (e.offset ≡ part.entry.at)) }
+{
+    placed_at(F::read(part.bytes), part.at)
 }
 
 impl<'a> Trade<'a> {
@@ -51,23 +56,24 @@ impl<'a> Trade<'a> {
         ensures set_or_refused { MatchResult result (λ _. Taken field.entry self.old self.new) (λ e. Refused field.entry e × (self.new ≡ self.old)) }
     {
         match field {
-            Field::Nature(p) => self.nature = placed_at(read_nature(p.bytes), p.at)?,
-            Field::Detail(p) => self.detail = placed_at(read_detail(p.bytes), p.at)?,
-            Field::Quantity(p) => self.quantity = placed_at(read_quantity(p.bytes), p.at)?,
-            Field::Security(p) => self.security = placed_at(read_isin(p.bytes), p.at)?,
-            Field::Price(p) => self.price = placed_at(read_price(p.bytes), p.at)?,
-            Field::Parties(p) => self.parties = placed_at(read_parties(p.bytes), p.at)?,
-            Field::Rebate(p) => self.rebate = Some(placed_at(read_rebate(p.bytes), p.at)?),
-            Field::Brokerage(p) => self.brokerage = Some(placed_at(read_brokerage(p.bytes), p.at)?),
-            Field::Charges(p) => self.charges = Some(placed_at(read_charges(p.bytes), p.at)?),
+            Field::Nature(p) => self.nature = read_part(p)?,
+            Field::Detail(p) => self.detail = read_part(p)?,
+            Field::Quantity(p) => self.quantity = read_part(p)?,
+            Field::Security(p) => self.security = read_part(p)?,
+            Field::Price(p) => self.price = read_part(p)?,
+            Field::Parties(p) => self.parties = read_part(p)?,
+            Field::Rebate(p) => self.rebate = Some(read_part(p)?),
+            Field::Brokerage(p) => self.brokerage = Some(read_part(p)?),
+            Field::Charges(p) => self.charges = Some(read_part(p)?),
             Field::Note(p) => self.note = Some(placed_at(read_note(p.bytes), p.at)?),
-            Field::Rate(p) => self.rate = Some(placed_at(read_rate(p.bytes), p.at)?),
+            Field::Rate(p) => self.rate = Some(read_part(p)?),
         }
         Ok(())
     }
 }
 
-// A trade to be read into: each field that must stand is set before it is answered.
+// A trade to be read into: each field that must stand is set before it is answered. Fields are handed on one by one, by the rows of
+// the table, so there is a trade before they are read.
 fn unread<'a>() -> Trade<'a>
     ensures { view result ≡ blank }
 {
@@ -89,14 +95,14 @@ fn unread<'a>() -> Trade<'a>
         },
         detail,
         quantity: Quantity {
-            kind: [65, 65, 65],
+            kind: *b"AAA",
             nominal: 0,
         },
         security: Isin {
-            bytes: [65, 65, 65, 65, 65, 65, 65, 65, 65, 65, 65, 65],
+            bytes: *b"AAAAAAAAAAAA",
         },
         price: Price {
-            currency: [65, 65, 65],
+            currency: *b"AAA",
             amount: 0,
         },
         parties: Parties {

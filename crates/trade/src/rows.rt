@@ -3,10 +3,11 @@ ghost use Rattle.std.specs.Prelude.{◌≡◌};
 ghost use Rattle.trade.specs.Deals.{label, table};
 ghost use Rattle.trade.specs.Views.{kind_of, part_of, Found};
 
+use notation::part::Part;
 use notation::refusals::TextFault;
-use walk::reader::{Part, Reader};
+use walk::reader::Reader;
 
-#[derive(Clone, Copy)]
+#[derive(Clone, Copy, PartialEq, Eq, Debug)]
 pub enum Kind {
     // 23
     Nature,
@@ -33,14 +34,15 @@ pub enum Kind {
 }
 
 // A row of the format table: a kind of field, and whether it must stand.
-#[derive(Clone, Copy)]
+#[derive(Clone, Copy, PartialEq, Eq, Debug)]
 pub struct Line {
     pub kind: Kind,
     pub required: bool,
 }
 
-// A field of a text: its contents, and where they stand.
-#[derive(Clone, Copy)]
+// A field of a text: its contents, and where they stand. One case for each kind, so that fields are handed on one by one; the matches
+// over kinds and fields give each case what is its own.
+#[derive(Clone, Copy, PartialEq, Eq, Debug)]
 pub enum Field<'a> {
     Nature(Part<'a>),
     Detail(Part<'a>),
@@ -92,55 +94,28 @@ fn field_of(kind: Kind, part: Part<'_>) -> Field<'_>
     }
 }
 
+fn row(kind: Kind, required: bool) -> Line
+    ensures row { result ≡ record { kind = kind; required = required } }
+{
+    Line { kind, required }
+}
+
 // The rows in their order; the first six must stand.
 pub(crate) fn rows() -> [Line; 11]
     ensures { result ≡ table }
 {
     [
-        Line {
-            kind: Kind::Nature,
-            required: true,
-        },
-        Line {
-            kind: Kind::Detail,
-            required: true,
-        },
-        Line {
-            kind: Kind::Quantity,
-            required: true,
-        },
-        Line {
-            kind: Kind::Security,
-            required: true,
-        },
-        Line {
-            kind: Kind::Price,
-            required: true,
-        },
-        Line {
-            kind: Kind::Parties,
-            required: true,
-        },
-        Line {
-            kind: Kind::Rebate,
-            required: false,
-        },
-        Line {
-            kind: Kind::Brokerage,
-            required: false,
-        },
-        Line {
-            kind: Kind::Charges,
-            required: false,
-        },
-        Line {
-            kind: Kind::Note,
-            required: false,
-        },
-        Line {
-            kind: Kind::Rate,
-            required: false,
-        },
+        row(Kind::Nature, true),
+        row(Kind::Detail, true),
+        row(Kind::Quantity, true),
+        row(Kind::Security, true),
+        row(Kind::Price, true),
+        row(Kind::Parties, true),
+        row(Kind::Rebate, false),
+        row(Kind::Brokerage, false),
+        row(Kind::Charges, false),
+        row(Kind::Note, false),
+        row(Kind::Rate, false),
     ]
 }
 

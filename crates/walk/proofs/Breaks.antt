@@ -1,6 +1,6 @@
 -- Where contents end, and that they end in one place only.
-use Rattle.std.proofs.Common.{◌≡◌, ℕ, suc, ◌+◌, ◌<◌, List, [], ◌∷◌, ◌++◌, length, get_or, drop, sym, refl, ap, ◌∙◌, subst, add-zero, arith}
-use Rattle.std.proofs.lemmas.List.{get_or_at, get_or-append-add, get_or_append_left, length-append}
+use Rattle.std.proofs.Common.{◌≡◌, ℕ, suc, ◌+◌, ◌<◌, List, [], ◌∷◌, ◌++◌, length, get_or, drop, refl, ap, ◌∙◌, subst, arith}
+use Rattle.std.proofs.lemmas.List.{get_or_at, get_or-append-add, length-append}
 use Rattle.walk.specs.Lines.{Ends, NoBreak}
 
 pub no_line : (s : List ℕ) → ((k : ℕ) → k + 1 < length s → get_or s k 0 ≡ 13 → get_or s (k + 1) 0 ≡ 10 → ⊥) → (c rest : List ℕ) → Ends s c rest → ⊥
@@ -13,20 +13,6 @@ break : (t : List ℕ) → get_or t 0 0 ≡ 13 → get_or t 1 0 ≡ 10 → t ≡
 break [] a b = absurd (omega arith)
 break (x ∷ []) a b = absurd (omega arith)
 break (x ∷ y ∷ t) a b = ap (λ z. z ∷ y ∷ t) a ∙ ap (λ z. 13 ∷ z ∷ t) b
-
-pub line_made : (s c t rest : List ℕ) (i : ℕ) → (i + 1 < length s) × (get_or s i 0 ≡ 13) × (get_or s (i + 1) 0 ≡ 10)
-    → ((k : ℕ) → k < i → get_or s k 0 ≡ 13 → get_or s (k + 1) 0 ≡ 10 → ⊥)
-    → s ≡ c ++ t → length c ≡ i → rest ≡ drop 2 t → Ends s c rest
-line_made s c t rest i found before e l r = (
-  e ∙ ap (λ x. c ++ x) (break t (at 0 (ap (λ n. get_or s n 0) (add-zero i) ∙ found.1)) (at 1 found.2) ∙ ap (λ x. 13 ∷ 10 ∷ x) (sym r)),
-  λ k h a b. before k (omega (arith, h, l)) (same k (omega arith) ∙ a) (same (k + 1) h ∙ b),
-)
-  where
-    at : {b : ℕ} (k : ℕ) → get_or s (i + k) 0 ≡ b → get_or t k 0 ≡ b
-    at k h = sym (ap (λ x. get_or x (i + k) 0) e ∙ ap (λ n. get_or (c ++ t) (n + k) 0) (sym l) ∙ get_or-append-add c t k 0) ∙ h
-
-    same : (k : ℕ) → k < length c → get_or s k 0 ≡ get_or c k 0
-    same k h = ap (λ x. get_or x k 0) e ∙ get_or_append_left c t 0 k h
 
 tail_unbroken : (x : ℕ) (c : List ℕ) → NoBreak (x ∷ c) → NoBreak c
 tail_unbroken x c n k h a b =

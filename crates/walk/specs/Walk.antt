@@ -4,8 +4,8 @@ use Rattle.notation.specs.declared.refusals.FieldFault.{FieldFault}
 use Rattle.notation.specs.declared.refusals.TextFault.{TextFault}
 use Rattle.notation.specs.declared.refusals.TextFault.TheVariants.{Label}
 use Rattle.notation.specs.declared.refusals.Why.TheVariants.{Notation}
+use Rattle.notation.specs.declared.part.Part.{Part}
 use Rattle.walk.specs.Lines.{Ends, Endless}
-use Rattle.walk.specs.declared.reader.Part.{Part}
 use Rattle.walk.specs.declared.reader.Reader.{Reader}
 
 -- what a reader has yet to read

@@ -7,15 +7,7 @@ fn line_end(s: &[u8]) -> Option<usize>
     ensures found { MatchOption result ((k : ℕ) → k + 1 < length s.now → slice_index s.now k ≡ 13 → slice_index s.now (k + 1) ≢ 10) (λ i. (i + 1 < length s.now) × (slice_index s.now i ≡ 13) × (slice_index s.now (i + 1) ≡ 10)) }
     ensures before { IfSome result (λ i. (k : ℕ) → k < i → slice_index s.now k ≡ 13 → slice_index s.now (k + 1) ≢ 10) }
 {
-    if s.len() < 2 {
-        return None;
-    }
-    for i in 0..s.len() - 1 {
-        if s[i] == b'\r' && s[i + 1] == b'\n' {
-            return Some(i);
-        }
-    }
-    None
+    s.windows(2).position(|pair| pair == b"\r\n".as_slice())
 }
 
 // The contents up to the first CR LF, and the rest after it.
@@ -23,7 +15,5 @@ pub fn split_line(s: &[u8]) -> Option<(&[u8], &[u8])>
     ensures at_the_first_break { MatchOption result (Endless s.now) (λ x. Ends s.now x.0.now x.1.now) }
 {
     let end = line_end(s)?;
-    let (contents, tail) = s.split_at(end);
-    let (_, rest) = tail.split_at(2);
-    Some((contents, rest))
+    Some((&s[..end], &s[end + 2..]))
 }

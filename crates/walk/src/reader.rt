@@ -3,17 +3,11 @@ ghost use Rattle.std.specs.Prelude.{◌≡◌, ◌+◌, ◌++◌, MatchOption};
 ghost use Rattle.walk.specs.Walk.{left, Absent, Entered, Passed, Ended};
 
 use crate::lines::split_line;
+use notation::part::Part;
 use notation::refusals::{FieldFault, TextFault, Why};
 
-// A part of a text, and where it stands.
-#[derive(Clone, Copy)]
-pub struct Part<'a> {
-    pub bytes: &'a [u8],
-    pub at: usize,
-}
-
-// A text, and how far it is read.
-#[derive(Clone, Copy)]
+// A text, and how far it is read. Not the rest alone: a fault is told by its place in the text.
+#[derive(Clone, Copy, PartialEq, Eq, Debug)]
 pub struct Reader<'a> {
     text: &'a [u8],
     at: usize,
@@ -45,22 +39,18 @@ impl<'a> Reader<'a> {
         ensures { result.now ≡ left self.now }
     {
         let text = self.text;
-        let at = self.at.min(text.len());
-        let (_, rest) = text.split_at(at);
-        rest
+        text.get(self.at..).unwrap_or(&[])
     }
 
     // Passes the label, if it stands next.
     pub fn enter(&mut self, label: &[u8]) -> bool
         ensures entered { Entered label.now self.old self.new result }
     {
-        match after(self.rest(), label) {
-            Some(_) => {
-                self.at += label.len();
-                true
-            }
-            None => false,
+        let stands = after(self.rest(), label).is_some();
+        if stands {
+            self.at += label.len();
         }
+        stands
     }
 
     // Passes contents and the CR LF that ends them.
@@ -68,23 +58,19 @@ impl<'a> Reader<'a> {
         ensures passed { Passed self.old self.new result }
     {
         let at = self.at;
-        match split_line(self.rest()) {
-            Some((bytes, _)) => {
-                self.at = at + (bytes.len() + 2);
-                Ok(Part { bytes, at })
-            }
-            None => Err(FieldFault {
-                why: Why::Notation,
-                offset: at,
-            }),
-        }
+        let (bytes, _) = split_line(self.rest()).ok_or(FieldFault {
+            why: Why::Notation,
+            offset: at,
+        })?;
+        self.at = at + (bytes.len() + 2);
+        Ok(Part { bytes, at })
     }
 
     // Nothing follows.
     pub fn end(&self) -> Result<(), TextFault>
         ensures ended { Ended self.now result }
     {
-        if self.rest().len() > 0 {
+        if !self.rest().is_empty() {
             return Err(TextFault::Label(self.at));
         }
         Ok(())

@@ -6,8 +6,5 @@ use Rattle.book.proofs.Book.clear.Goals as goal
 
 pub invariant_of-self : goal.invariant_of-self
 invariant_of-self c =
-    let e : taken_places c.clear.new.self.entries.now ≡ 0 = ap taken_places c.clear.ensures.all_empty ∙ taken_empty OpenTrade _ in
-    record {
-      account = omega arith;
-      numbered = omega arith;
-    }
+    let e : taken_places c.clear.new.self ≡ 0 = ap taken_places c.clear.ensures.all_empty ∙ taken_empty OpenTrade _ in
+    (omega arith, omega arith)

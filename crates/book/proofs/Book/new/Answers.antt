@@ -6,8 +6,5 @@ use Rattle.book.proofs.Book.new.Goals as goal
 
 pub invariant_of-result : goal.invariant_of-result
 invariant_of-result c =
-    let e : taken_places c.new.result.entries.now ≡ 0 = ap taken_places c.new.ensures.all_empty ∙ taken_empty OpenTrade _ in
-    record {
-      account = omega arith;
-      numbered = omega arith;
-    }
+    let e : taken_places c.new.result ≡ 0 = ap taken_places c.new.ensures.all_empty ∙ taken_empty OpenTrade _ in
+    (omega arith, omega arith)

@@ -1,6 +1,6 @@
 use Rattle.std.proofs.Common.{min}
 use Rattle.pieces.specs.Plain.{places}
-use Rattle.costs.proofs.Slashes.{signed_no_decimal, signed_no_minus, signed_found}
+use Rattle.costs.proofs.Slashes.{signed_no_decimal, signed_no_minus}
 use Rattle.costs.proofs.amounts.signed_decimal.Goals as goal
 
 pub returns-in_err-d : goal.returns-in_err-d
@@ -8,8 +8,3 @@ returns-in_err-d c = rw c.from_residual.ensures (signed_no_decimal (min c.args.w
 
 pub returns-in_err-negative : goal.returns-in_err-negative
 returns-in_err-negative c = rw c.from_residual-in_err-negative.ensures (signed_no_minus (min c.args.whole 13) (places c.args.scale) _ _ _ c.split_slash.ensures.at_the_first_slash c.in_err-negative.ensures)
-
-pub returns : goal.returns
-returns c =
-    let d = c.in_ok-d.ensures.counted in
-    (d.0, signed_found (min c.args.whole 13) (places c.args.scale) _ _ _ c.split_slash.ensures.at_the_first_slash d.0 d.1 _ c.in_ok-negative.ensures, (d.2, d.3, d.4))

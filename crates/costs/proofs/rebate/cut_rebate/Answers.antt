@@ -1,17 +1,23 @@
-use Rattle.costs.proofs.Rebates.{rebate_empty, rebate_no_discount, rebate_no_bonus, rebate_found}
+use Rattle.std.proofs.Common.{Some}
+use Rattle.pieces.specs.Notation.{dec, units}
+use Rattle.fields.proofs.Rows.{not_empty, maybe_none, maybe_gives}
+use Rattle.costs.specs.Amounts.{slash_bonus, signed_units}
+use Rattle.costs.proofs.Rebates.{rebate_no_discount, rebate_no_bonus, rebate_found}
 use Rattle.costs.proofs.rebate.cut_rebate.Goals as goal
 
-pub returns-then-s-eq0 : goal.returns-then-s-eq0
-returns-then-s-eq0 c = rebate_empty _ c.if-s-eq0.true
-
 pub returns-in_err-discount : goal.returns-in_err-discount
-returns-in_err-discount c = rw c.from_residual.ensures (rebate_no_discount _ _ _ c.split_slash.ensures.at_the_first_slash c.in_err-discount.ensures)
+returns-in_err-discount c =
+    let m = c.in_err-discount.ensures.nothing_or_what_is_read in
+    rw c.from_residual.ensures (rebate_no_discount _ _ _ c.split_slash.ensures.at_the_first_slash (maybe_none (dec 7 2) _ m.0 m.1))
 
 pub returns-in_err-bonus : goal.returns-in_err-bonus
-returns-in_err-bonus c = rw c.from_residual-in_err-bonus.ensures (rebate_no_bonus _ _ _ c.split_slash.ensures.at_the_first_slash c.in_err-bonus.ensures)
+returns-in_err-bonus c =
+    let m = c.in_err-bonus.ensures.nothing_or_what_is_read in
+    rw c.from_residual-in_err-bonus.ensures (rebate_no_bonus _ _ _ c.split_slash.ensures.at_the_first_slash (maybe_none slash_bonus _ m.0 m.1))
 
 pub returns : goal.returns
 returns c =
-    let d = c.in_ok-discount.ensures in
-    let b = c.in_ok-bonus.ensures in
-    ((d.0, b.0), rebate_found _ _ _ c.split_slash.ensures.at_the_first_slash c.if-s-eq0.false d.0 b.0 d.1 b.1, d.2, b.2)
+    let d = maybe_gives (dec 7 2) (units 2) _ (Some c.in_ok-discount.discount) c.in_ok-discount.ensures.nothing_or_what_is_read in
+    let b = maybe_gives slash_bonus (signed_units 3) _ (Some c.in_ok-bonus.bonus) c.in_ok-bonus.ensures.nothing_or_what_is_read in
+    let some = not_empty c.args.s.now c.is_empty.result c.if-is_empty.false c.is_empty.ensures in
+    ((d.0, b.0), rebate_found _ _ _ c.split_slash.ensures.at_the_first_slash some d.0 b.0 d.1 b.1, (d.2, b.2))

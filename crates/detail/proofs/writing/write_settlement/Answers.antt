@@ -10,10 +10,10 @@ use Rattle.detail.proofs.writing.write_settlement.Goals as goal
 
 pub returns-in-Some : goal.returns-in-Some
 returns-in-Some c =
-    let l = c.letters_of.result in
+    let l = c.from.result in
     let n = c.stamp_of.result in
     grown_as c.args.out.now c.digits.new.self (47 ∷ (l ++ digits 6 n)) _
-    (ap (λ x. 47 ∷ (x ++ digits 6 n)) c.letters_of.ensures ∙ ap (λ m. 47 ∷ (kind_letters c.in-Some.s.kind ++ digits 6 m)) c.stamp_of.ensures ∙ ap (λ o. print (opt slash_coded_date) (option_map settlement_piece o)) (sym c.in-Some.is))
+    (ap (λ x. 47 ∷ (x ++ digits 6 n)) c.from.ensures ∙ ap (λ m. 47 ∷ (kind_letters c.in-Some.s.kind ++ digits 6 m)) c.stamp_of.ensures ∙ ap (λ o. print (opt slash_coded_date) (option_map settlement_piece o)) (sym c.in-Some.is))
     (grown_on c.args.out.now c.push.new.self c.digits.new.self (47 ∷ []) (l ++ digits 6 n) c.push.ensures.grown
     (grown_on c.push.new.self c.append.new.self c.digits.new.self l (digits 6 n) c.append.ensures.grown c.digits.ensures.grown))
 

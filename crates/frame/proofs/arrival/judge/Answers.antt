@@ -1,4 +1,4 @@
-use Rattle.std.proofs.Common.{◌≡◌, Ok, rules}
+use Rattle.std.proofs.Common.{◌≡◌, rules}
 use Rattle.frame.proofs.Judges.{keeps_the_rules, only_answer}
 use Rattle.frame.specs.Arrivals.{judged}
 use Rattle.frame.proofs.arrival.judge.Goals as goal
@@ -12,20 +12,11 @@ returns-in_err-message c =
       one_answer = only_answer c.args.member c.args.circle c.args.frame.now c.from_residual.result e;
     }
 
-pub returns-in_err-arrival : goal.returns-in_err-arrival
-returns-in_err-arrival c =
-    let e : c.from_residual-in_err-arrival.result ≡ judged c.args.member c.args.circle c.args.frame.now = search rules in
-    record {
-      answer = e;
-      by_the_rules = keeps_the_rules c.args.member c.args.circle c.args.frame.now c.from_residual-in_err-arrival.result e;
-      one_answer = only_answer c.args.member c.args.circle c.args.frame.now c.from_residual-in_err-arrival.result e;
-    }
-
 pub returns : goal.returns
 returns c =
-    let e : Ok c.in_ok-arrival.arrival ≡ judged c.args.member c.args.circle c.args.frame.now = search rules in
+    let e : c.arrive_at.result ≡ judged c.args.member c.args.circle c.args.frame.now = search rules in
     record {
       answer = e;
-      by_the_rules = keeps_the_rules c.args.member c.args.circle c.args.frame.now (Ok c.in_ok-arrival.arrival) e;
-      one_answer = only_answer c.args.member c.args.circle c.args.frame.now (Ok c.in_ok-arrival.arrival) e;
+      by_the_rules = keeps_the_rules c.args.member c.args.circle c.args.frame.now c.arrive_at.result e;
+      one_answer = only_answer c.args.member c.args.circle c.args.frame.now c.arrive_at.result e;
     }

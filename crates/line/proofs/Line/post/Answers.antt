@@ -1,5 +1,4 @@
 use Rattle.std.proofs.Common.{◌≡◌, ◌-◌, ◌≤◌, length, take, Ok, Err, subst, arith, length-take, rules}
-use Rattle.book.specs.View.{ledger}
 use Rattle.trade.specs.Views.{view}
 use Rattle.line.specs.Composing.{Composes}
 use Rattle.line.proofs.Compositions.{posted}
@@ -24,7 +23,7 @@ returns c =
     let t = take (n - 0) a in
     let short : length t ≤ 320 = omega (arith, length-take (n - 0) a, w.2) in
     record {
-      posted_or_refused = posted c.args.self.now.settings.member d (ledger c.args.book.now) (ledger c.enter.new.self) t c.args.out.now c.write_frame.new.out c.in_ok-isn.isn c.in_ok-size-2.size
+      posted_or_refused = posted c.args.self.now.settings.member d c.args.book.now c.enter.new.self t c.args.out.now c.write_frame.new.out c.in_ok-isn.isn c.in_ok-size-2.size
           (subst (λ m. Composes d (Ok (take m a))) e w.0) c.in_ok-isn.ensures.answer short c.args.self.now.member_of_four_digits
           c.in_ok-size-2.ensures.answer c.in_ok-size-2.ensures.output c.enter.ensures.book_after;
       refusal_changes_nothing = tt;

@@ -4,14 +4,14 @@ use Rattle.std.proofs.lemmas.List.{length-map, map-set}
 use Rattle.table.specs.Masks.{mask_of}
 use Rattle.packed.specs.declared.Span.{Span}
 use Rattle.packed.specs.Spans.{Inside, Apart, cells_of, extent, total}
-use Rattle.hold.proofs.Parts.{length_put}
+use Rattle.packed.proofs.Parts.{length_put}
 use Rattle.packed.proofs.Spans.{inside_kept, apart_kept, cells_kept, total_set}
 use Rattle.packed.proofs.Packed.append.Goals as goal
 
 pub invariant_of-self : goal.invariant_of-self
 invariant_of-self c =
     let p = c.args.self.now in
-    let es = p.spans.entries.now in
+    let es = p.spans in
     let b = p.bytes.now in
     let u = p.used in
     let k = c.args.place in
@@ -19,8 +19,8 @@ invariant_of-self c =
     let v : Span = record { start = u; len = n } in
     let few : length es ≤ 64 = p.few in
     let small : length b ≤ 65535 = p.small in
-    let e : c.put.new.self.entries.now ≡ set es k (Some v) = c.put.ensures.entries_after in
-    let le : length c.put.new.self.entries.now ≡ length es = ap length e ∙ length-set es k (Some v) in
+    let e : c.put.new.self ≡ set es k (Some v) = c.put.ensures.entries_after in
+    let le : length c.put.new.self ≡ length es = ap length e ∙ length-set es k (Some v) in
     let lb : length (put_mid u ((u + n) - u) b c.copy_from_slice.new.self) ≡ length b =
     length_put u ((u + n) - u) b c.copy_from_slice.new.self (omega (arith, c.requires.room)) (omega (arith, ap length c.copy_from_slice.ensures.after)) in
     let t : total (set es k (Some v)) + extent (get_or es k None) ≡ total es + n = total_set es k (Some v) c.requires.below in
@@ -43,7 +43,7 @@ invariant_of-self c =
 pub returns : goal.returns
 returns c =
     let p = c.args.self.now in
-    let es = p.spans.entries.now in
+    let es = p.spans in
     let b = p.bytes.now in
     let u = p.used in
     let k = c.args.place in

@@ -1,4 +1,4 @@
-use Rattle.std.proofs.Common.{◌≡◌, ◌-◌, ◌≤◌, min, map, length, take, replicate, is_some, None, sym, ap, ◌∙◌, subst, arith}
+use Rattle.std.proofs.Common.{◌≡◌, ◌≤◌, min, map, length, take, replicate, is_some, None, sym, ap, ◌∙◌, subst, arith}
 use Rattle.std.proofs.lemmas.List.{length-take, length-replicate}
 use Rattle.table.specs.Masks.{mask_of}
 use Rattle.table.proofs.Masks.{flags_none}
@@ -9,12 +9,12 @@ use Rattle.packed.proofs.Packed.new.Goals as goal
 
 pub invariant_of-result : goal.invariant_of-result
 invariant_of-result c =
-    let p = c.min-places.result - 0 in
+    let p = c.min-places.result in
     let m = length (take p c.args.spans.now) in
-    let z : c.new.result.entries.now ≡ replicate m None = c.new.ensures.all_empty in
-    let l : length c.new.result.entries.now ≡ m = ap length z ∙ length-replicate m None in
+    let z : c.new.result ≡ replicate m None = c.new.ensures.all_empty in
+    let l : length c.new.result ≡ m = ap length z ∙ length-replicate m None in
     let lm : m ≡ min p (length c.args.spans.now) = length-take p c.args.spans.now in
-    let lb : length (take (c.min-most.result - 0) c.args.bytes.now) ≡ min (c.min-most.result - 0) (length c.args.bytes.now) = length-take _ _ in
+    let lb : length (take c.min-most.result c.args.bytes.now) ≡ min c.min-most.result (length c.args.bytes.now) = length-take _ _ in
     let m64 : m ≤ 64 = omega (arith, c.min-places.ensures) in
     record {
       few = omega arith;
@@ -28,11 +28,11 @@ invariant_of-result c =
 
 pub returns : goal.returns
 returns c =
-    let p = c.min-places.result - 0 in
+    let p = c.min-places.result in
     let m = length (take p c.args.spans.now) in
-    let b = take (c.min-most.result - 0) c.args.bytes.now in
+    let b = take c.min-most.result c.args.bytes.now in
     let lm : m ≡ min p (length c.args.spans.now) = length-take p c.args.spans.now in
-    let lb : length b ≡ min (c.min-most.result - 0) (length c.args.bytes.now) = length-take _ _ in
+    let lb : length b ≡ min c.min-most.result (length c.args.bytes.now) = length-take _ _ in
     let e : m ≡ min 64 (length c.args.spans.now) = omega (arith, c.min-places.ensures) in
     record {
       all_empty = ap (λ es. cells_of es b) c.new.ensures.all_empty ∙ cells_none m b ∙ ap (λ n. replicate n None) e;

@@ -1,7 +1,6 @@
 use Rattle.std.proofs.Common.{◌≡◌, ℕ, ◌∷◌, length, vec_items, sym, refl, ap, ◌∙◌, subst}
 use Rattle.std.proofs.lemmas.List.{with_items_is}
 use Rattle.book.specs.Ledger.{has}
-use Rattle.book.specs.View.{ledger}
 use Rattle.line.specs.Composing.{PostedAs}
 use Rattle.line.specs.Steps.{fetch_output, fetch_result, fetch_state, take_ledger, take_output, take_result, take_state}
 use Rattle.line.specs.View.{view}
@@ -23,11 +22,11 @@ returns-in-Arrival g c =
     let x = l.settings in
     let C = g.H.Hold.most c.args.hold.now in
     let s = view l (g.H.Hold.cells c.args.hold.now) in
-    let b = ledger c.args.book.now in
+    let b = c.args.book.now in
     let w = vec_items c.args.turn.now.output in
     let r = Arrival c.arrive.result in
-    let goes : (h : History) (P U : ℕ) → Stands x P C U h s b → Stands x P C U (turned c.args.turn.now.request w r (w) ∷ h) (view c.arrive.new.self (g.H.Hold.cells c.arrive.new.hold)) (ledger c.arrive.new.book) =
-    λ h P U k. on_arrival x P C U (patient l) h s (view c.arrive.new.self (g.H.Hold.cells c.arrive.new.hold)) b (ledger c.arrive.new.book) c.args.turn.now.request w r k c.in-Arrival.frame c.in-Arrival.is (ap Arrival c.arrive.ensures.answer) c.arrive.ensures.line_and_hold_after c.arrive.ensures.book_after in
+    let goes : (h : History) (P U : ℕ) → Stands x P C U h s b → Stands x P C U (turned c.args.turn.now.request w r (w) ∷ h) (view c.arrive.new.self (g.H.Hold.cells c.arrive.new.hold)) c.arrive.new.book =
+    λ h P U k. on_arrival x P C U (patient l) h s (view c.arrive.new.self (g.H.Hold.cells c.arrive.new.hold)) b c.arrive.new.book c.args.turn.now.request w r k c.in-Arrival.frame c.in-Arrival.is (ap Arrival c.arrive.ensures.answer) c.arrive.ensures.line_and_hold_after c.arrive.ensures.book_after in
     record {
       law = λ h P U k. stands_law x P C U _ _ _ (goes h P U k);
       tells_this_call = goes;
@@ -42,14 +41,14 @@ returns-in-Take g c =
     let x = l.settings in
     let C = g.H.Hold.most c.args.hold.now in
     let s = view l (g.H.Hold.cells c.args.hold.now) in
-    let b = ledger c.args.book.now in
+    let b = c.args.book.now in
     let w = vec_items c.args.turn.now.output in
     let value = c.deref_mut.ensures.value in
     let len : length c.take.new.out ≡ c.args.turn.now.output.len = c.take.auto.out ∙ c.deref_mut.ensures.len in
     let written = with_items_is c.args.turn.now.output c.take.new.out len in
     let r = Take c.take.result in
-    let goes : (h : History) (P U : ℕ) → Stands x P C U h s b → Stands x P C U (turned c.args.turn.now.request w r (vec_items (Rattle.std.specs.Vec.with_items c.args.turn.now.output c.take.new.out)) ∷ h) (view c.take.new.self (g.H.Hold.cells c.take.new.hold)) (ledger c.take.new.book) =
-    λ h P U k. on_take x P C U (patient l) h s (view c.take.new.self (g.H.Hold.cells c.take.new.hold)) b (ledger c.take.new.book) c.args.turn.now.request w r k _ c.in-Take.is (ap Take (c.take.ensures.answer ∙ ap (take_result s (has b)) value)) (written ∙ c.take.ensures.output ∙ ap (take_output s) value) (c.take.ensures.line_and_hold_after ∙ ap (take_state x s) value) (c.take.ensures.book_after ∙ ap (take_ledger s b) value) in
+    let goes : (h : History) (P U : ℕ) → Stands x P C U h s b → Stands x P C U (turned c.args.turn.now.request w r (vec_items (Rattle.std.specs.Vec.with_items c.args.turn.now.output c.take.new.out)) ∷ h) (view c.take.new.self (g.H.Hold.cells c.take.new.hold)) c.take.new.book =
+    λ h P U k. on_take x P C U (patient l) h s (view c.take.new.self (g.H.Hold.cells c.take.new.hold)) b c.take.new.book c.args.turn.now.request w r k _ c.in-Take.is (ap Take (c.take.ensures.answer ∙ ap (take_result s (has b)) value)) (written ∙ c.take.ensures.output ∙ ap (take_output s) value) (c.take.ensures.line_and_hold_after ∙ ap (take_state x s) value) (c.take.ensures.book_after ∙ ap (take_ledger s b) value) in
     record {
       law = λ h P U k. stands_law x P C U _ _ _ (goes h P U k);
       tells_this_call = goes;
@@ -64,7 +63,7 @@ returns-in-Tick g c =
     let x = l.settings in
     let C = g.H.Hold.most c.args.hold.now in
     let s = view l (g.H.Hold.cells c.args.hold.now) in
-    let b = ledger c.args.book.now in
+    let b = c.args.book.now in
     let w = vec_items c.args.turn.now.output in
     let r = Tick c.tick.result in
     let goes : (h : History) (P U : ℕ) → Stands x P C U h s b → Stands x P C U (turned c.args.turn.now.request w r (w) ∷ h) (view c.tick.new.self (g.H.Hold.cells c.args.hold.now)) (b) =
@@ -83,7 +82,7 @@ returns-in-Fetch g c =
     let x = l.settings in
     let C = g.H.Hold.most c.args.hold.now in
     let s = view l (g.H.Hold.cells c.args.hold.now) in
-    let b = ledger c.args.book.now in
+    let b = c.args.book.now in
     let w = vec_items c.args.turn.now.output in
     let value = c.deref_mut-in-Fetch.ensures.value in
     let len : length c.fetch.new.out ≡ c.args.turn.now.output.len = c.fetch.auto.out ∙ c.deref_mut-in-Fetch.ensures.len in
@@ -105,7 +104,7 @@ returns-in-Status g c =
     let x = l.settings in
     let C = g.H.Hold.most c.args.hold.now in
     let s = view l (g.H.Hold.cells c.args.hold.now) in
-    let b = ledger c.args.book.now in
+    let b = c.args.book.now in
     let w = vec_items c.args.turn.now.output in
     let r = Status c.status.result in
     let goes : (h : History) (P U : ℕ) → Stands x P C U h s b → Stands x P C U (turned c.args.turn.now.request w r (w) ∷ h) (s) (b) =
@@ -124,19 +123,19 @@ returns-in-Posting g c =
     let x = l.settings in
     let C = g.H.Hold.most c.args.hold.now in
     let s = view l (g.H.Hold.cells c.args.hold.now) in
-    let b = ledger c.args.book.now in
+    let b = c.args.book.now in
     let w = vec_items c.args.turn.now.output in
     let value = c.deref_mut-in-Posting.ensures.value in
     let len : length c.post.new.out ≡ c.args.turn.now.output.len = c.post.auto.out ∙ c.deref_mut-in-Posting.ensures.len in
     let written = with_items_is c.args.turn.now.output c.post.new.out len in
     let d = deal_of c.in-Posting.trade in
     let posted = c.post.ensures.posted_or_refused in
-    let A : PostedAs x.member d b w c.post.result (ledger c.post.new.book) (vec_items (Rattle.std.specs.Vec.with_items c.args.turn.now.output c.post.new.out)) =
-    subst (λ o. PostedAs x.member d b w c.post.result (ledger c.post.new.book) o) (sym written)
-    (subst (λ v. PostedAs x.member d b v c.post.result (ledger c.post.new.book) c.post.new.out) value posted) in
+    let A : PostedAs x.member d b w c.post.result c.post.new.book (vec_items (Rattle.std.specs.Vec.with_items c.args.turn.now.output c.post.new.out)) =
+    subst (λ o. PostedAs x.member d b w c.post.result c.post.new.book o) (sym written)
+    (subst (λ v. PostedAs x.member d b v c.post.result c.post.new.book c.post.new.out) value posted) in
     let r = Posting c.post.result in
-    let goes : (h : History) (P U : ℕ) → Stands x P C U h s b → Stands x P C U (turned c.args.turn.now.request w r (vec_items (Rattle.std.specs.Vec.with_items c.args.turn.now.output c.post.new.out)) ∷ h) (s) (ledger c.post.new.book) =
-    λ h P U k. on_posting x P C U (patient l) h s (s) b (ledger c.post.new.book) c.args.turn.now.request w r k c.in-Posting.trade c.post.result _ c.in-Posting.is refl refl A in
+    let goes : (h : History) (P U : ℕ) → Stands x P C U h s b → Stands x P C U (turned c.args.turn.now.request w r (vec_items (Rattle.std.specs.Vec.with_items c.args.turn.now.output c.post.new.out)) ∷ h) (s) c.post.new.book =
+    λ h P U k. on_posting x P C U (patient l) h s (s) b c.post.new.book c.args.turn.now.request w r k c.in-Posting.trade c.post.result _ c.in-Posting.is refl refl A in
     record {
       law = λ h P U k. stands_law x P C U _ _ _ (goes h P U k);
       tells_this_call = goes;

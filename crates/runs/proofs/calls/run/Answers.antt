@@ -1,5 +1,4 @@
 use Rattle.std.proofs.Common.{◌≡◌, [], length, sym, subst}
-use Rattle.book.specs.View.{entries_of}
 use Rattle.runs.specs.Law.{Law}
 use Rattle.runs.specs.Told.{Tell, told}
 use Rattle.runs.proofs.calls.run.Goals as goal
@@ -12,7 +11,7 @@ returns g c =
     let x = c.args.settings in
     let C = m.most c.args.hold.now in
     let P = length (m.cells c.args.hold.now) in
-    let U = length (entries_of c.args.book.now) in
+    let U = length c.args.book.now.entries in
     let cs = m.cells c.begin.new.hold in
     let h = told [] c.args.turns.now c.go_on.new.turns in
     let set : line.settings ≡ x = b.tells_no_call.0 in

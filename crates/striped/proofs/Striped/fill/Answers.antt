@@ -1,53 +1,40 @@
-use Rattle.std.proofs.Common.{◌≡◌, ◌+◌, ◌*◌, ◌<◌, ◌≤◌, map, length, take, is_some, Some, sym, refl, ap, ◌∙◌, subst, ap₂, arith, length-set}
-use Rattle.std.proofs.lemmas.List.{length-take-le, length-map, map-set}
+use Rattle.std.proofs.Common.{◌≡◌, ◌<◌, ◌≤◌, map, length, take, set, is_some, Some, sym, refl, ap, ◌∙◌, subst, arith, length-set}
+use Rattle.std.proofs.lemmas.List.{length-map, map-set, take_at}
+use Rattle.std.specs.List.{refill}
 use Rattle.table.specs.Masks.{mask_of}
 use Rattle.striped.specs.Stripes.{Short, cells_of}
-use Rattle.hold.proofs.Parts.{length_put}
-use Rattle.striped.proofs.Stripes.{set_take, cells_kept, short_kept}
+use Rattle.striped.proofs.Stripes.{refill_set, set_some, short_kept}
 use Rattle.striped.proofs.Striped.fill.Goals as goal
 
 pub invariant_of-self : goal.invariant_of-self
 invariant_of-self c =
     let p = c.args.self.now in
-    let es = take p.places p.lens in
-    let b = p.bytes.now in
+    let es = p.lens.items in
     let k = c.args.place in
-    let f = c.args.frame.now in
-    let few : p.places ≤ 32 = p.few in
-    let whole : length b ≡ p.places * 1023 = p.whole in
-    let below : k < p.places = c.requires.below in
-    let short : length f ≤ 1023 = c.requires.short in
-    let wide : length p.lens ≡ 32 = p.wide in
-    let le : length es ≡ p.places = length-take-le p.places p.lens (omega arith) in
-    let within : k * 1023 + length f ≤ length b = omega arith in
-    let lb : length c.write_stripe.new.bytes ≡ length b =
-    ap length c.write_stripe.ensures.bytes_after ∙ length_put (k * 1023) (length f) b f within refl in
+    let n = length c.args.frame.now in
+    let few : length es ≤ 32 = p.few in
+    let e : refill (length es) es (set c.deref_mut.result.now k (Some n)) ≡ set es k (Some n) =
+    ap (λ ws. refill (length es) es (set ws k (Some n))) c.deref_mut.ensures.value ∙ refill_set es k (Some n) in
+    let l : length (refill (length es) es (set c.deref_mut.result.now k (Some n))) ≡ length es = ap length e ∙ length-set es k (Some n) in
     let flags = map is_some es in
-    let lf : k < length flags = omega (arith, length-map es is_some) in
+    let lf : k < length flags = omega (arith, c.requires.below, length-map es is_some) in
     let f64 : length flags ≤ 64 = omega (arith, length-map es is_some) in
-    let e = set_take p.places p.lens k (Some (length f)) in
     record {
-      wide = length-set p.lens k (Some (length f)) ∙ wide;
-      few = few;
-      whole = lb ∙ whole;
-      short = subst Short (sym e) (short_kept es k (length f) p.short short);
-      tied = (c.occupy.ensures.mask_after flags lf (f64, p.tied)).1 ∙ ap mask_of (sym (ap (map is_some) e ∙ map-set is_some es k (Some (length f))));
+      few = let z : length (refill (length es) es (set c.deref_mut.result.now k (Some n))) ≤ 32 = omega arith in z;
+      whole = length-set p.stripes.now k c.write_stripe.new.stripe ∙ p.whole ∙ sym l;
+      short = subst Short (sym e) (short_kept es k n p.short c.requires.short);
+      tied = (c.occupy.ensures.mask_after flags lf (f64, p.tied)).1 ∙ ap mask_of (sym (ap (map is_some) e ∙ map-set is_some es k (Some n)));
     }
 
-pub returns : goal.returns
-returns c =
+pub returns-clause-cells_after : goal.returns-clause-cells_after
+returns-clause-cells_after c =
     let p = c.args.self.now in
-    let es = take p.places p.lens in
-    let b = p.bytes.now in
+    let es = p.lens.items in
+    let ss = p.stripes.now in
     let k = c.args.place in
     let f = c.args.frame.now in
-    let few : p.places ≤ 32 = p.few in
-    let whole : length b ≡ p.places * 1023 = p.whole in
-    let below : k < p.places = c.requires.below in
-    let wide : length p.lens ≡ 32 = p.wide in
-    let le : length es ≡ p.places = length-take-le p.places p.lens (omega arith) in
-    record {
-      cells_after = ap₂ cells_of (set_take p.places p.lens k (Some (length f))) c.write_stripe.ensures.bytes_after
-          ∙ cells_kept es b f k (omega arith) (omega arith) c.requires.short p.short;
-      most_unchanged = refl;
-    }
+    let s = c.write_stripe.new.stripe in
+    let e : refill (length es) es (set c.deref_mut.result.now k (Some (length f))) ≡ set es k (Some (length f)) =
+    ap (λ ws. refill (length es) es (set ws k (Some (length f)))) c.deref_mut.ensures.value ∙ refill_set es k (Some (length f)) in
+    ap (λ xs. cells_of xs (set ss k s)) e
+    ∙ set_some es ss k f s (ap (take (length f)) c.write_stripe.ensures.after ∙ take_at f _ (length f) refl)

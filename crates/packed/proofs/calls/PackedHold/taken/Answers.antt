@@ -7,7 +7,7 @@ use Rattle.packed.proofs.calls.PackedHold.taken.Goals as goal
 pub returns : goal.returns
 returns c =
     let p = c.args.self.now in
-    let es = p.spans.entries.now in
+    let es = p.spans in
     let few : length es ≤ 64 = p.few in
     let f64 : length (map is_some es) ≤ 64 = omega (arith, length-map es is_some) in
     record { answer = c.count.ensures.answer (map is_some es) (f64, p.tied) ∙ trues_taken es ∙ sym (taken_cells es p.bytes.now) }

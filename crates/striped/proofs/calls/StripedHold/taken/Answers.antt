@@ -1,5 +1,5 @@
-use Rattle.std.proofs.Common.{◌≤◌, map, length, take, is_some, sym, ◌∙◌, arith}
-use Rattle.std.proofs.lemmas.List.{length-map, length-take}
+use Rattle.std.proofs.Common.{◌≤◌, map, length, is_some, sym, ◌∙◌, arith}
+use Rattle.std.proofs.lemmas.List.{length-map}
 use Rattle.table.proofs.Masks.{trues_taken}
 use Rattle.striped.proofs.Stripes.{taken_cells}
 use Rattle.striped.proofs.calls.StripedHold.taken.Goals as goal
@@ -7,7 +7,7 @@ use Rattle.striped.proofs.calls.StripedHold.taken.Goals as goal
 pub returns : goal.returns
 returns c =
     let p = c.args.self.now in
-    let es = take p.places p.lens in
-    let few : p.places ≤ 32 = p.few in
-    let f64 : length (map is_some es) ≤ 64 = omega (arith, length-map es is_some, length-take p.places p.lens) in
-    record { answer = c.count.ensures.answer (map is_some es) (f64, p.tied) ∙ trues_taken es ∙ sym (taken_cells es p.bytes.now) }
+    let es = p.lens.items in
+    let few : length es ≤ 32 = p.few in
+    let f64 : length (map is_some es) ≤ 64 = omega (arith, length-map es is_some) in
+    record { answer = c.count.ensures.answer (map is_some es) (f64, p.tied) ∙ trues_taken es ∙ sym (taken_cells es p.stripes.now p.whole) }

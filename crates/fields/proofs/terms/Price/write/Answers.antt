@@ -1,5 +1,0 @@
-use Rattle.pieces.proofs.Growing.{grown_on}
-use Rattle.fields.proofs.terms.Price.write.Goals as goal
-
-pub returns : goal.returns
-returns c = record { as_the_row_has_it = grown_on c.args.out.now c.append.new.self c.decimal.new.self _ _ c.append.ensures.grown c.decimal.ensures.grown }

@@ -1,0 +1,5 @@
+use Rattle.std.proofs.Common.{length}
+use Rattle.frame.proofs.write.+put_digits.Given as goal
+
+abbrev pub decreases-put_digits : goal.decreases-put_digits
+decreases-put_digits l = length l.out.now
