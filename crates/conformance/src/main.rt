@@ -15,29 +15,17 @@ use std::io::{BufRead, BufReader};
 use trade::reading::read_trade;
 use words::{decode_hex, read_member, read_number};
 
-// What a line asks.
-#[derive(Drop)]
+// What a line asks, of the bytes that are its last word.
+#[derive(Clone, Copy, PartialEq, Eq, Debug)]
 enum Request {
     // A MEMBER FIRST LAST HEX: a frame is judged
-    Judge {
-        member: u16,
-        circle: Circle,
-        frame: Vec<u8>,
-    },
+    Judge { member: u16, circle: Circle },
     // O MEMBER HEX: an asked session is handed a frame
-    Open {
-        member: u16,
-        frame: Vec<u8>,
-    },
+    Open { member: u16 },
     // C MEMBER HEX: a leaving session is handed a frame
-    Close {
-        member: u16,
-        frame: Vec<u8>,
-    },
+    Close { member: u16 },
     // R HEX: a text is read, and written as we would write the trade that it means
-    Read {
-        text: Vec<u8>,
-    },
+    Read,
 }
 
 // What a request is answered with, where it is not refused.
@@ -58,7 +46,7 @@ fn run(rt: &HostRuntime) -> anyhow::Result<()> {
         // an output is lent by who calls, since a library call allocates nothing
         let mut out = [0u8; 320];
         let reply = match read_request(heap, &line?)? {
-            Some(request) => answer(request, &mut out),
+            Some((request, bytes)) => answer(request, &bytes, &mut out),
             None => Err(LineFault::Unknown.into()),
         };
         tell(rt, reply)?;
@@ -66,23 +54,24 @@ fn run(rt: &HostRuntime) -> anyhow::Result<()> {
     Ok(())
 }
 
-// The request of a line, if it is one.
-fn read_request(heap: Global, line: &[u8]) -> Result<Option<Request>, AllocError> {
+// The request of a line and the bytes that it is about, if it is one.
+fn read_request(heap: Global, line: &[u8]) -> Result<Option<(Request, Vec<u8>)>, AllocError> {
     let Ok(line) = str::from_utf8(line) else {
         return Ok(None);
     };
-    // the bytes are the last word
+    // the bytes are the last word, and are read once the words before them are known to ask something
     let Some((front, last)) = line.rsplit_once(' ') else {
         return Ok(None);
     };
-    let Some(bytes) = decode_hex(heap, last)? else {
+    let Some(request) = read_words(front) else {
         return Ok(None);
     };
-    Ok(with_bytes(front, bytes))
+    let bytes = decode_hex(heap, last)?;
+    Ok(bytes.map(|bytes| (request, bytes)))
 }
 
-// The request that these words and bytes make, if they make one.
-fn with_bytes(front: &str, bytes: Vec<u8>) -> Option<Request> {
+// What these words ask, if they ask something.
+fn read_words(front: &str) -> Option<Request> {
     let mut words = front.split(' ');
     let request = match words.next()? {
         "A" => Request::Judge {
@@ -91,44 +80,36 @@ fn with_bytes(front: &str, bytes: Vec<u8>) -> Option<Request> {
                 first: Osn(read_number(words.next()?)?),
                 last: Osn(read_number(words.next()?)?),
             },
-            frame: bytes,
         },
         "O" => Request::Open {
             member: read_member(words.next()?)?,
-            frame: bytes,
         },
         "C" => Request::Close {
             member: read_member(words.next()?)?,
-            frame: bytes,
         },
-        "R" => Request::Read { text: bytes },
+        "R" => Request::Read,
         _ => return None,
     };
     words.next().is_none().then_some(request)
 }
 
-fn answer(request: Request, out: &mut [u8; 320]) -> Result<Reply<'_>, Refusal> {
+fn answer<'a>(
+    request: Request,
+    bytes: &[u8],
+    out: &'a mut [u8; 320],
+) -> Result<Reply<'a>, Refusal> {
     match request {
-        Request::Judge {
-            member,
-            circle,
-            frame,
-        } => Ok(Reply::Taken(judge(&frame, member, circle)?)),
-        Request::Open { member, frame } => {
-            ask(member)?.accept(&frame).map_err(|(_, fault)| fault)?;
+        Request::Judge { member, circle } => Ok(Reply::Taken(judge(bytes, member, circle)?)),
+        Request::Open { member } => {
+            ask(member)?.accept(bytes).map_err(|(_, fault)| fault)?;
             Ok(Reply::Done)
         }
-        Request::Close { member, frame } => {
-            leaving(member)?.accept(&frame).map_err(|(_, fault)| fault)?;
+        Request::Close { member } => {
+            leaving(member)?.accept(bytes).map_err(|(_, fault)| fault)?;
             Ok(Reply::Done)
         }
-        Request::Read { text } => {
-            // a match: `?` on a trade, which borrows its text and has a rate with a model, is not covered by the check
-            let trade = match read_trade(&text) {
-                Ok(trade) => trade,
-                Err(fault) => return Err(fault.into()),
-            };
-            let n = trade.write(out)?;
+        Request::Read => {
+            let n = read_trade(bytes)?.write(out)?;
             Ok(Reply::Written(&out[..n]))
         }
     }

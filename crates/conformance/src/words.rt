@@ -23,8 +23,9 @@ pub fn decode_hex(heap: Global, word: &str) -> Result<Option<Vec<u8>>, AllocErro
     if word == "-" {
         return Ok(Some(Vec::new(heap)));
     }
-    // the library reads capitals too
-    if word.is_empty() || word.bytes().any(|b| b.is_ascii_uppercase()) {
+    // the library reads capitals too, and makes room before it looks at a digit
+    let plain = word.bytes().all(|b| matches!(b, b'0'..=b'9' | b'a'..=b'f'));
+    if word.is_empty() || word.len() % 2 != 0 || !plain {
         return Ok(None);
     }
     match hex::decode(heap, word) {

@@ -68,7 +68,7 @@ fn cut_charges(s: &[u8]) -> Option<(Option<i64>, Option<Result<Commission, Why>>
         return None;
     }
     let (expenses, rest) = take_amount(s)?;
-    Some((expenses, optional(rest, read_commission)?))
+    Some((expenses, optional(rest, read_commission(rest))?))
 }
 
 fn write_commission(out: &mut Scratch, commission: Commission)

@@ -45,8 +45,8 @@ fn cut_rebate(s: &[u8]) -> Option<Rebate>
         return None;
     }
     let (head, tail) = split_slash(s);
-    let discount = optional(head, read_discount)?;
-    let bonus = optional(tail, read_bonus)?;
+    let discount = optional(head, read_discount(head))?;
+    let bonus = optional(tail, read_bonus(tail))?;
     Some(Rebate { discount, bonus })
 }
 

@@ -54,6 +54,11 @@ pub maybe_none : (f : Notation) (s : List ℕ) → (s ≡ [] → ⊥) → Finds 
 maybe_none f s some none None k = some k.0
 maybe_none f s some none (Some v) k = none v k
 
+pub maybe_read : {T : Type 0} (Read : Option T → Type 0) (s : List ℕ) (read : Option T) (x : Option (Option T)) → Maybe s (λ found. found ≡ read) x → Read read → Maybe s Read x
+maybe_read Read s read None h p = (h.0, subst Read (sym h.1) p)
+maybe_read Read s read (Some None) h p = h
+maybe_read Read s read (Some (Some t)) h p = (h.0, subst Read (sym h.1) p)
+
 pub maybe_gives : {T : Type 0} (f : Notation) (g : Value f → T) (s : List ℕ) (x : Option (Option T)) → Maybe s (Gives f g s) x → Gives (opt f) (option_map g) s x
 maybe_gives f g s None h = maybe_none f s h.0 h.1
 maybe_gives f g s (Some None) h = (None, (h, tt), refl)

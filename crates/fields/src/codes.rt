@@ -1,5 +1,5 @@
 // Codes of capital letters, and what is left out or written behind them.
-ghost use Rattle.std.specs.Prelude.{◌+◌, ◌≤◌, min};
+ghost use Rattle.std.specs.Prelude.{◌≡◌, ◌+◌, ◌≤◌, min};
 ghost use Rattle.fields.specs.Codes.{Maybe, Sees, coded_row};
 ghost use Rattle.fields.specs.Table.{code, slash_code};
 ghost use Rattle.notation.specs.declared.classes.Class.TheVariants.{Capital};
@@ -14,15 +14,15 @@ use pieces::cuts::{after, all_of, front_of};
 use pieces::decimals::{Scale, read_decimal};
 use pieces::scratch::Scratch;
 
-// A piece that may be left out: nothing, or what is read.
-pub fn optional<'a, T, F: FnOnce(&'a [u8]) -> Option<T>>(s: &'a [u8], read: F) -> Option<Option<T>>
-    requires { F.pre read s }
-    ensures nothing_or_what_is_read { Maybe s.now (F.post read s.entry) result }
+// A piece that may be left out: nothing where nothing stands, or what is read there. It takes what was read, and not the reader, since
+// a function that is handed one asks that it may be called.
+pub fn optional<T: Drop>(s: &[u8], read: Option<T>) -> Option<Option<T>>
+    ensures nothing_or_what_is_read { Maybe s.now (λ found. found ≡ read) result }
 {
     if s.is_empty() {
         return Some(None);
     }
-    read(s).map(Some)
+    read.map(Some)
 }
 
 // Two capital letters.
@@ -44,7 +44,7 @@ fn read_code(s: &[u8]) -> Option<[u8; 2]>
 pub fn optional_code(s: &[u8]) -> Option<Option<[u8; 2]>>
     ensures as_written { Finds code s.now result }
 {
-    optional(s, read_code)
+    optional(s, read_code(s))
 }
 
 // Three capital letters, and the units of a decimal of at most so many whole digits.

@@ -37,7 +37,7 @@ fn run(rt: &HostRuntime) -> io::Result<ExitCode> {
     let mut inspector = Inspector {
         rt,
         options: &options,
-        tally: Tally::new(rt.alloc()),
+        tally: Tally::new(),
     };
     if options.files.is_empty() {
         inspector.lines(rt.stdin())?;

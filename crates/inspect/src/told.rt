@@ -1,8 +1,6 @@
 // What is printed of a frame, and of all of them.
 use frame::arrival::Message;
 use notation::refusals::{Layer, Refusal};
-use std::alloc::Global;
-use std::collections::BTreeMap;
 use std::io;
 
 // How many frames were read, and how many of them were refused, by number.
@@ -10,15 +8,16 @@ use std::io;
 pub struct Tally {
     read: u64,
     taken: u64,
-    refused: BTreeMap<u8, u64>,
+    // by number, of which none needs memory when it is first met
+    refused: [u64; 256],
 }
 
 impl Tally {
-    pub fn new(heap: Global) -> Tally {
+    pub fn new() -> Tally {
         Tally {
             read: 0,
             taken: 0,
-            refused: BTreeMap::new(heap),
+            refused: [0; 256],
         }
     }
 
@@ -53,7 +52,7 @@ impl Tally {
         refusal: Refusal,
     ) -> io::Result<()> {
         let place = self.next();
-        let count = self.refused.entry(refusal.number)?.or_insert(0);
+        let count = &mut self.refused[usize::from(refusal.number)];
         *count = count.saturating_add(1);
         print!(rt; "frame {place}: refused: {refusal}")?;
         match refusal.layer {
@@ -68,7 +67,12 @@ impl Tally {
         let taken = self.taken;
         let refused = read.saturating_sub(taken);
         print!(rt; "{read} frames read, {taken} taken, {refused} refused")?;
-        for (i, (number, count)) in self.refused.iter().enumerate() {
+        let met = self
+            .refused
+            .iter()
+            .enumerate()
+            .filter(|(_, count)| **count > 0);
+        for (i, (number, count)) in met.enumerate() {
             let sign = if i == 0 { ": " } else { ", " };
             print!(rt; "{sign}{number} x {count}")?;
         }

@@ -85,17 +85,17 @@ impl Line {
         ensures line_after { view self.new (H.cells hold.now) ≡ tick_state self.old.settings (view self.old (H.cells hold.now)) }
         ensures set_up_unchanged { self.new.settings ≡ self.old.settings }
     {
-        let mut wait = self.wait?;
         if self.top <= self.next {
             return None;
         }
+        let wait = self.wait.as_mut()?;
         if wait.left > 1 {
             wait.left -= 1;
-            self.wait = Some(wait);
             return None;
         }
-        if wait.tries < self.settings.tries {
-            self.wait = Some(self.begin_try(wait.tries + 1));
+        let tries = wait.tries;
+        if tries < self.settings.tries {
+            self.wait = Some(self.begin_try(tries + 1));
             return None;
         }
         let from = self.next;

@@ -6,7 +6,7 @@ use costs::rebate::Rebate;
 use detail::codes::{Place, SettlementKind};
 use detail::detail::{Detail, Settlement};
 use fields::parties::{Isin, Parties};
-use fields::terms::{Nature, Price, Quantity, Rate, Side};
+use fields::terms::{Nature, Price, Quantity, Side};
 use pieces::calendar::{Date, Time};
 use std::fmt;
 use trade::reading::Trade;
@@ -59,7 +59,7 @@ struct Draft<'a> {
     expenses: Option<i64>,
     commission: Option<Commission>,
     note: Option<&'a [u8]>,
-    rate: Option<Rate>,
+    rate: Option<u64>,
 }
 
 fn read_yes(s: &[u8]) -> Option<bool> {
@@ -133,7 +133,7 @@ impl<'a> Draft<'a> {
             b"price" => self.price = Some(read_units(value, 4).ok_or(slip)?),
             b"member" => self.member = Some(read_number(value).ok_or(slip)?),
             b"with" => self.with = Some(read_number(value).ok_or(slip)?),
-            b"rate" => self.rate = Some(Rate::from(read_units(value, 5).ok_or(slip)?)),
+            b"rate" => self.rate = Some(read_units(value, 5).ok_or(slip)?),
             b"note" => self.note = Some(value),
             b"place" => self.place = Some(read_place(value).ok_or(slip)?),
             b"traded" => self.traded = Some(read_date(value).ok_or(slip)?),

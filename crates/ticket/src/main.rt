@@ -107,11 +107,8 @@ fn run(rt: &HostRuntime) -> Result<ExitCode, Failure> {
         }
     }
     if making {
-        // a match: `?` on a trade, which borrows its words and has a rate with a model, is not covered by the check
-        match make_trade(&given) {
-            Ok(trade) => write_text(rt, &trade)?,
-            Err(slip) => return Err(Failure::Words(slip)),
-        }
+        let trade = make_trade(&given).map_err(Failure::Words)?;
+        write_text(rt, &trade)?;
     } else if !any {
         let mut text = Vec::new(heap);
         rt.stdin().read_to_end(&mut text)?;

@@ -72,7 +72,7 @@ pub fn tell_trade(rt: &HostRuntime, trade: &Trade<'_>) -> io::Result<()> {
         tell_charges(rt, &charges)?;
     }
     if let Some(rate) = trade.rate {
-        let rate = Figure::plain(u64::from(rate), Scale::HundredThousandths);
+        let rate = Figure::plain(rate, Scale::HundredThousandths);
         println!(rt; "exchange rate {rate}")?;
     }
     if let Some(note) = trade.note {

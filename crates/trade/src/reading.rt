@@ -32,8 +32,8 @@ pub struct Trade<'a> {
     pub charges: Option<Charges>,
     // free text of 1 to 30 characters
     pub note: Option<&'a [u8]>,
-    // the exchange rate
-    pub rate: Option<Rate>,
+    // the exchange rate, in hundred-thousandths
+    pub rate: Option<u64>,
 }
 
 // A fault of contents at their place in the text.
@@ -66,7 +66,7 @@ impl<'a> Trade<'a> {
             Field::Brokerage(p) => self.brokerage = Some(read_part(p)?),
             Field::Charges(p) => self.charges = Some(read_part(p)?),
             Field::Note(p) => self.note = Some(placed_at(read_note(p.bytes), p.at)?),
-            Field::Rate(p) => self.rate = Some(read_part(p)?),
+            Field::Rate(p) => self.rate = Some(u64::from(read_part::<Rate>(p)?)),
         }
         Ok(())
     }

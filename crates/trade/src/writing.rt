@@ -11,6 +11,7 @@ ghost use Rattle.trade.specs.declared.writing.WriteFault.TheVariants.{Contents a
 use crate::reading::{Trade, placed_at};
 use crate::rows::{Kind, Line, label_of, rows};
 use fields::parties::check_note;
+use fields::terms::Rate;
 use notation::refusals::{FieldFault, Layer, Refusal, Why};
 use pieces::contents::Contents;
 use pieces::scratch::Scratch;
@@ -65,6 +66,13 @@ fn write_line<F: Contents + Copy>(
     Ok(())
 }
 
+// The rate as its field has it. A trade keeps the number itself, so that it can be copied.
+fn rate_of(units: Option<u64>) -> Option<Rate>
+    ensures same_number { result ≡ units }
+{
+    units.map(Rate::from)
+}
+
 // The same for free text, which is borrowed.
 fn write_note_line(label: &[u8], note: Option<&[u8]>, out: &mut Scratch) -> Result<(), Why>
     ensures { LinedAs row72 label.now (seen note.entry) out.old out.new result }
@@ -96,7 +104,7 @@ impl Trade<'_> {
             Kind::Brokerage => write_line(label, self.brokerage, out),
             Kind::Charges => write_line(label, self.charges, out),
             Kind::Note => write_note_line(label, self.note, out),
-            Kind::Rate => write_line(label, self.rate, out),
+            Kind::Rate => write_line(label, rate_of(self.rate), out),
         }
     }
 }
@@ -120,6 +128,7 @@ impl Trade<'_> {
     {
         let mut scratch = Scratch::new();
         compose(&rows(), self, &mut scratch)?;
-        scratch.copy_to(out).ok_or(WriteFault::Short)
+        let n = scratch.copy_to(out).ok_or(WriteFault::Short)?;
+        Ok(n)
     }
 }

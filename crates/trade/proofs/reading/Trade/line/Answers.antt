@@ -1,5 +1,8 @@
 use Rattle.trade.specs.declared.rows.Kind.TheVariants.{Nature, Detail, Quantity, Security, Price, Parties, Rebate, Brokerage, Charges, Note, Rate}
+use Rattle.std.proofs.Common.{subst}
+use Rattle.fields.specs.Terms.{row36}
 use Rattle.trade.specs.Views.{view}
+use Rattle.trade.specs.Writing.{LinedAs}
 use Rattle.trade.proofs.Writings.{lined_at}
 use Rattle.trade.proofs.reading.Trade.line.Goals as goal
 
@@ -34,4 +37,4 @@ pub returns-in-Note : goal.returns-in-Note
 returns-in-Note c = lined_at (view c.args.self.now) c.args.kind Note c.args.out.now c.write_note_line.new.out c.write_note_line.result c.label_of-label.result.now c.in-Note.is c.label_of-label.ensures c.write_note_line.ensures
 
 pub returns-in-Rate : goal.returns-in-Rate
-returns-in-Rate c = lined_at (view c.args.self.now) c.args.kind Rate c.args.out.now c.write_line-in-Rate.new.out c.write_line-in-Rate.result c.label_of-label.result.now c.in-Rate.is c.label_of-label.ensures c.write_line-in-Rate.ensures
+returns-in-Rate c = lined_at (view c.args.self.now) c.args.kind Rate c.args.out.now c.write_line-in-Rate.new.out c.write_line-in-Rate.result c.label_of-label.result.now c.in-Rate.is c.label_of-label.ensures (subst (λ field. LinedAs row36 c.label_of-label.result.now field c.args.out.now c.write_line-in-Rate.new.out c.write_line-in-Rate.result) c.rate_of.ensures.same_number c.write_line-in-Rate.ensures)

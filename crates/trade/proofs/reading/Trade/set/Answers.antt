@@ -1,4 +1,6 @@
-use Rattle.std.proofs.Common.{Some, refl}
+use Rattle.std.proofs.Common.{Some, Ok, refl, sym, subst}
+use Rattle.pieces.specs.Rows.{Reads}
+use Rattle.fields.specs.Terms.{row36}
 use Rattle.trade.specs.declared.rows.Field.TheVariants.{Nature, Detail, Quantity, Security, Price, Parties, Rebate, Brokerage, Charges, Note, Rate}
 use Rattle.trade.proofs.Takes.{ok_note, err_note, taken_as, refused_in}
 use Rattle.trade.proofs.reading.Trade.set.Goals as goal
@@ -67,4 +69,4 @@ pub returns-in_err-read_part-in-Rate : goal.returns-in_err-read_part-in-Rate
 returns-in_err-read_part-in-Rate c = record { set_or_refused = refused_in _ (Rate c.in-Rate.p) _ _ _ c.in-Rate.is c.from_residual-in_err-read_part-in-Rate.ensures.1 c.in_err-read_part-in-Rate.ensures }
 
 pub returns-in_ok-read_part-in-Rate : goal.returns-in_ok-read_part-in-Rate
-returns-in_ok-read_part-in-Rate c = record { set_or_refused = taken_as _ (Rate c.in-Rate.p) _ _ c.in-Rate.is (_, c.in_ok-read_part-in-Rate.ensures, refl) }
+returns-in_ok-read_part-in-Rate c = record { set_or_refused = taken_as _ (Rate c.in-Rate.p) _ _ c.in-Rate.is (_, subst (λ v. Reads row36 c.in-Rate.p.bytes.now (Ok v)) (sym c.from.ensures) c.in_ok-read_part-in-Rate.ensures, refl) }
