@@ -8,7 +8,7 @@ use std::io;
 pub struct Tally {
     read: u64,
     taken: u64,
-    // by number, of which none needs memory when it is first met
+    // by number; none needs memory when it is first met
     refused: [u64; 256],
 }
 

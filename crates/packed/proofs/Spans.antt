@@ -6,7 +6,8 @@ use Rattle.std.proofs.lemmas.Slice.{take-put_mid_below, between-put_mid}
 use Rattle.std.proofs.lemmas.Bool.{cases_eq, cases_lt}
 use Rattle.table.specs.Places.{one_if_taken, taken_places}
 use Rattle.table.proofs.Places.{taken_map}
-use Rattle.hold.specs.Meaning.{size, bytes_held, cell_at, stores}
+use Rattle.std.specs.Option.{option_map}
+use Rattle.hold.specs.Meaning.{size, bytes_held, cell_at, frame_length, stores}
 use Rattle.hold.proofs.Cells.{stores_gives, none_at}
 use Rattle.packed.specs.declared.Span.{Span}
 use Rattle.packed.specs.Spans.{Spans, frame_in, cells_of, extent, total, Inside, Apart}
@@ -30,6 +31,14 @@ unfolding cells_of
 get_cells [] b k = refl
 get_cells (e ∷ es) b zero = refl
 get_cells (e ∷ es) b (suc k) = get_cells es b k
+
+-- a span within the bytes tells the length of its frame
+told_in : (b : List ℕ) (e : Option Span) → ((s : Span) → e ≡ Some s → s.start + s.len ≤ length b) → frame_length (frame_in b e) ≡ option_map (λ s. s.len) e
+told_in b None h = refl
+told_in b (Some s) h = ap Some (length-take-le s.len (drop s.start b) (omega (arith, h s refl, length-drop s.start b)))
+
+pub told_cells : (u : ℕ) (es : Spans) (b : List ℕ) (k : ℕ) → Inside u es → u ≤ length b → frame_length (cell_at (cells_of es b) k) ≡ option_map (λ s. s.len) (get_or es k None)
+told_cells u es b k i l = ap frame_length (get_cells es b k) ∙ told_in b (get_or es k None) (λ s e. omega (arith, l, i k s e))
 
 pub set_cells : (es : Spans) (b : List ℕ) (k : ℕ) (e : Option Span) → cells_of (set es k e) b ≡ set (cells_of es b) k (frame_in b e)
 unfolding cells_of

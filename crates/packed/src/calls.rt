@@ -138,7 +138,7 @@ impl<'a> Hold for Packed<'a> {
     }
 
     fn look(&self, place: usize) -> Option<usize> {
-        self.frame_at(place).map(|frame| frame.len())
+        self.spans.get(place).map(|span| span.len as usize)
     }
 
     fn copy(&self, place: usize, out: &mut [u8]) -> bool {

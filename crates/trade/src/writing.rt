@@ -128,6 +128,7 @@ impl Trade<'_> {
     {
         let mut scratch = Scratch::new();
         compose(&rows(), self, &mut scratch)?;
+        // the length by its name, so that an edit can answer another one
         let n = scratch.copy_to(out).ok_or(WriteFault::Short)?;
         Ok(n)
     }
