@@ -42,10 +42,17 @@ fn main(rt: HostRuntime) -> anyhow::Result<()> {
 
 fn run(rt: &HostRuntime) -> anyhow::Result<()> {
     let heap = rt.alloc();
-    for line in BufReader::new(heap, rt.stdin())?.split(heap, b'\n') {
+    let mut input = BufReader::new(heap, rt.stdin())?;
+    // all lines are read into one memory, where the library's `split` takes a new one for each, and more in all
+    let mut line = Vec::new(heap);
+    for _ in 0..u64::MAX {
+        line.clear();
+        if input.read_until(b'\n', &mut line)? == 0 {
+            break;
+        }
         // an output is lent by who calls, since a library call allocates nothing
         let mut out = [0u8; 320];
-        let reply = match read_request(heap, &line?)? {
+        let reply = match read_request(heap, line.strip_suffix(b"\n").unwrap_or(&line))? {
             Some((request, bytes)) => answer(request, &bytes, &mut out),
             None => Err(LineFault::Unknown.into()),
         };

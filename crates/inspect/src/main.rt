@@ -78,11 +78,18 @@ impl Inspector<'_> {
         }
     }
 
-    // One frame a line; a line ends at LF, and a CR before it is a byte of the frame.
+    // One frame a line; a line ends at LF, and a CR before it is a byte of the frame. All lines are read into one memory, where the
+    // library's `split` takes a new one for each, and more in all.
     fn lines<R: Read + Drop>(&mut self, input: R) -> io::Result<()> {
         let heap = self.rt.alloc();
-        for line in BufReader::new(heap, input)?.split(heap, b'\n') {
-            self.frame(&line?)?;
+        let mut input = BufReader::new(heap, input)?;
+        let mut line = Vec::new(heap);
+        for _ in 0..u64::MAX {
+            line.clear();
+            if input.read_until(b'\n', &mut line)? == 0 {
+                break;
+            }
+            self.frame(line.strip_suffix(b"\n").unwrap_or(&line))?;
         }
         Ok(())
     }
