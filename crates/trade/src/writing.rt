@@ -66,13 +66,6 @@ fn write_line<F: Contents + Copy>(
     Ok(())
 }
 
-// The rate as its field has it. A trade keeps the number itself, so that it can be copied.
-fn rate_of(units: Option<u64>) -> Option<Rate>
-    ensures same_number { result ≡ units }
-{
-    units.map(Rate::from)
-}
-
 // The same for free text, which is borrowed.
 fn write_note_line(label: &[u8], note: Option<&[u8]>, out: &mut Scratch) -> Result<(), Why>
     ensures { LinedAs row72 label.now (seen note.entry) out.old out.new result }
@@ -85,6 +78,13 @@ fn write_note_line(label: &[u8], note: Option<&[u8]>, out: &mut Scratch) -> Resu
     out.append(note);
     out.append(b"\r\n");
     Ok(())
+}
+
+// The rate as its field has it. A trade keeps the number itself, so that it can be copied.
+fn rate_of(units: Option<u64>) -> Option<Rate>
+    ensures same_number { result ≡ units }
+{
+    units.map(Rate::from)
 }
 
 impl Trade<'_> {
